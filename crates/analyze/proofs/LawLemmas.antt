@@ -247,7 +247,7 @@ columns-lawful h lawful k lt =
     let long = length-map h.rows (λ (row : Values). slice_index_or row k Null) in
     column-lawful t (values_of k h.rows) (omega (arith, long, lawful.few)) (column-typed h.columns k lt h.rows (recursion_from_All (IsRowOf h.columns) h.rows lawful.each)) (default_family_of t) refl
 
--- so for each column in turn, and nothing of it is refused
+-- the statistics of each column in turn are of values of its type
 zip-range : (f : ℕ → Statistics) (cs : List Column) (from : ℕ) → ((k : ℕ) → k < length cs → AreValuesOf (slice_index_or cs k no_column).typed (f (from + k)))
     → AllZip (λ (c : Column) (s : Statistics). AreValuesOf c.typed s) cs (map f (range_with_len from (length cs)))
 zip-range f [] from each = tt

@@ -99,7 +99,7 @@ module _ (P : IndexNo → Type 0) (f : IndexNo → ℕ) where
       by (inl there) = absurd (true≢false (sym (subst (λ (ys : List IndexNo). is-listed j ys ≡ true) (drop_of_length-le xs le) there)))
       by (inr beaten) = beaten
 
-  -- so what is found in the end has the property, and its number is not above that of any other that has it
+  -- the index that is found in the end has the property, and its number is not above that of any other that has it
   pub best-found : (xs : List IndexNo) (k : ℕ) (x : IndexNo × ℕ) (best : Option (IndexNo × ℕ)) → length xs ≤ k → best ≡ Some x → BestSoFar (drop k xs) best → P x.0 × ((j : IndexNo) → P j → f x.0 ≤ f j)
   best-found xs k x best le e h =
       let last : BestSoFar (drop k xs) (Some x) = subst (λ (o : Option (IndexNo × ℕ)). BestSoFar (drop k xs) o) e h in

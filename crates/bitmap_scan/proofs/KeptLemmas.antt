@@ -99,7 +99,7 @@ module _ (c : Contents) (q : Query) (r : RelNo) (p : RelSet) where
     each = All-push (IsKept c q r p) ks k h.each kept;
   }
 
-  -- that a tree's part and clauses are what is kept
+  -- a tree's part and clauses are what is kept
   pub kept-of : (k : ElementTree) (t : BitTree) → tree_in k ≡ t → k.part ≡ capped (part_of c q r p t) → ((n : ℕ) → contains k.used n ≡ uses c q r.0 (has p.0) t n) → ((n : ℕ) → contains k.used n ≡ true → n < length q.classes.clauses) →
       ((n : ℕ) → has k.named.0 n ≡ others_named r.0 (conditions_from 0 (contains k.used) q.classes.clauses) n) → IsKept c q r p k
   kept-of k t same part used within named = record {

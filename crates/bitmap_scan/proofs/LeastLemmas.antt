@@ -47,7 +47,7 @@ module _ (c : Contents) (q : Query) (r : RelNo) (p : RelSet) where
     pub used : (n : ℕ) → uses c q r.0 (has p.0) a n ≡ uses c q r.0 (has p.0) b n
     pub part : capped (part_of c q r p a) ≤ capped (part_of c q r p b)
 
-  -- the same of lists of trees
+  -- one list of trees uses what the other does, and its part, once cut, is not above the other's
   record AreUnder (us bs : BitTrees) : Type 0 where
     used : (n : ℕ) → some_uses c q r.0 (has p.0) us n ≡ some_uses c q r.0 (has p.0) bs n
     parts : capped (sum (parts_of_all c q r p us)) ≤ capped (sum (parts_of_all c q r p bs))
@@ -83,7 +83,7 @@ module _ (c : Contents) (q : Query) (r : RelNo) (p : RelSet) where
   one-under e (t ∷ []) b z k arms = least-under e t b z.0 k arms
   one-under e (t ∷ (u ∷ us)) b z k arms = absurd z.1
 
-  -- that of several
+  -- the tree of several elements
   several-under : (es : List Element) (ts : List BitTree) (bs : BitTrees) → AllZip (IsLeastTree c q r p) es ts → elements_of c q r.0 (has p.0) bs ≡ map Some es → 2 ≤ length (elements_of c q r.0 (has p.0) bs) → HaveArms c q r.0 (has p.0) bs → IsUnder (combined ts) (all_hold bs)
   several-under [] [] bs z e two arms = absurd (let h = ap length e in omega (arith, h, two))
   several-under [] (t ∷ ts) bs z e two arms = absurd z

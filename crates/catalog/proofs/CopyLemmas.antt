@@ -97,7 +97,7 @@ module _ (es fs : List (Vec ℕ Global × Table)) (is js : List (Vec ℕ Global 
   pub contents-copied : contents_of fs js ≡ contents_of es is
   contents-copied = let d = tables-copied es fs tables in let x = indexes-copied is js indexes in λ i. record { tables = d i; indexes = x i }
 
-  -- and are lawful and listed as they were
+  -- copied entries are lawful and listed as those that are copied
   pub lawful-copied : IsLawful (contents_of es is) × AreListed (map named_index is) 0 es → IsLawful (contents_of fs js) × AreListed (map named_index js) 0 fs
   lawful-copied h = (
     subst IsLawful (sym contents-copied) h.0,

@@ -108,7 +108,7 @@ listed-at xs n (d ∷ es) (suc i) e h at =
     let here : (n + 1) + i ≡ n + suc i = omega arith in
     listed-at xs (n + 1) es i e h.1 at ∙ ap (λ k. numbers_from 0 xs (record { 0 = k })) here
 
--- that of a value at a place
+-- the list of the value at a place
 pub listed-value : (xs : List NamedIndex) (n : ℕ) (es : List (Vec ℕ Global × Table)) (i : ℕ) (old : Table) → AreListed xs n es → slice_get (values_of es) i ≡ Some old →
     old.indexes.items ≡ numbers_from 0 xs (record { 0 = n + i })
 listed-value xs n [] i old h at = cc at

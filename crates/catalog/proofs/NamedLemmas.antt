@@ -29,7 +29,7 @@ module _ (c : Contents) (name : List ℕ) where
   free None m e = m
   free (Some t) m e = cc e
 
-  -- the same of an index
+  -- a name that an index has is among the names
   pub taken-index : (r : Option IndexNo) → MatchOption r (IsFreeIndex c name) (HasIndexName c name) → is_some r ≡ true → Contains (index_names c) name
   taken-index None m e = cc e
   taken-index (Some i) m e = name-among (λ x. x.name) c.indexes i.0 no_index name m.0 m.1

@@ -40,7 +40,7 @@ module _ (es : List (Vec ℕ Global × Table)) (is : List (Vec ℕ Global × Ind
       ap (λ (l : List TableDef). record { tables = l; indexes = map named_index is })
       (defs-set es t.0 new ∙ ap (set (map table_def es) t.0) (same _ ∙ ap change (sym (def-of_value es t.0 old at))))
 
-  -- and where it is lawful, and its list stays, all is as it should be
+  -- with another definition of a table that is lawful, the list of indexes as it was, the contents stay lawful and listed
   pub kept : IsTable (contents_of es is) t → (change (table_at (contents_of es is) t)).name ≡ (table_at (contents_of es is) t).name → (change (table_at (contents_of es is) t)).columns ≡ (table_at (contents_of es is) t).columns →
       IsLawfulTable (change (table_at (contents_of es is) t)) → new.indexes.items ≡ old.indexes.items → IsLawful (contents_of es is) × AreListed (map named_index is) 0 es →
       IsLawful (contents_of (set_value_at es t.0 new) is) × AreListed (map named_index is) 0 (set_value_at es t.0 new)

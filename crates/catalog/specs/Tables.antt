@@ -63,7 +63,7 @@ pub record IsAcceptable (c : Contents) (name : List ℕ) (names : List (List ℕ
   pub room : length c.tables < MOST_TABLES
 
 -- why a new table is refused: a table or an index has its name; else a column name stands twice, at the first such place;
--- else 64 tables are there; and where none of these holds, want of memory
+-- else 64 tables are there; and where none of these holds, memory ran out
 abbrev pub IsRefusal : Contents → List ℕ → List (List ℕ) → CatalogFault → Type 0
 IsRefusal c name names NameTaken = Contains (all_names c) name
 IsRefusal c name names (ColumnTwice place) = IsUnused c name × IsFirstRepeat names place
@@ -84,7 +84,7 @@ pub record IsAcceptableIndex (c : Contents) (name : List ℕ) (x : Index) : Type
   pub form : has_form x ≡ true
 
 -- why a new index is refused: a table or an index has its name; else a column stands twice, at the first such place; else
--- its table has 8 indexes; else the method has no index of its form; and where none of these holds, want of memory
+-- its table has 8 indexes; else the method has no index of its form; and where none of these holds, memory ran out
 abbrev pub IsIndexRefusal : Contents → List ℕ → Index → CatalogFault → Type 0
 IsIndexRefusal c name x NameTaken = Contains (all_names c) name
 IsIndexRefusal c name x (ColumnTwice place) = IsUnused c name × IsFirstTwice (columns_of x) place

@@ -24,13 +24,13 @@ trait Copied: Drop {
     /// Whether the second stands for the same as the first.
     ghost same: { Self → Self → Type 0 };
 
-    /// A copy. The error means want of memory.
+    /// A copy. The error means that memory ran out.
     fn copied(&self, alloc: Global) -> Result<Self, Memory>
         ensures { IfOk result (same self.now) };
 }
 
 impl Catalog {
-    /// A catalogue of its own with the same contents. The error means want of memory.
+    /// A catalogue of its own with the same contents. The error means that memory ran out.
     pub fn copy(&self, alloc: Global) -> Result<Catalog, Memory>
         ensures { IfOk result (λ c. c ≡ self.now) }
     {
@@ -45,7 +45,7 @@ impl Catalog {
 }
 
 impl IndexDef {
-    /// A definition of the same index. The error means want of memory.
+    /// A definition of the same index. The error means that memory ran out.
     pub fn copy(&self, alloc: Global) -> Result<IndexDef, Memory>
         ensures { IfOk result (λ d. index_of d ≡ index_of self.now) }
     {
@@ -60,7 +60,7 @@ impl IndexDef {
 }
 
 impl ColumnStats {
-    /// The same of a column. The error means want of memory.
+    /// A copy of a column's statistics. The error means that memory ran out.
     fn copy(&self, alloc: Global) -> Result<ColumnStats, Memory>
         ensures { IfOk result (λ s. statistics s ≡ statistics self.now) }
     {
@@ -111,7 +111,7 @@ fn copy_predicate(alloc: Global, predicate: &Option<Expr>) -> Result<Option<Expr
     }
 }
 
-/// The same numbers.
+/// A copy of a table's list of indexes.
 fn copy_numbers(numbers: &[IndexNo]) -> ArrayVec<IndexNo, MOST_INDEXES>
     requires { length numbers.now ≤ MOST_INDEXES }
     ensures { result.items ≡ numbers.now }

@@ -10,7 +10,7 @@ use crate::index_def::IndexDef;
 use indexmap::IndexMap;
 use pg_base::TableNo;
 
-/// Puts a value under a key, the last where the key is new. The error means want of memory.
+/// Puts a value under a key, the last where the key is new. The error means that memory ran out.
 pub(crate) fn put<V: Drop>(
     map: &mut IndexMap<Vec<u8>, V>,
     key: Vec<u8>,

@@ -20,7 +20,7 @@ pub enum CatalogFault {
     /// The number, literal or form of index at this place, from 0, is not allowed (22023).
     #[error("invalid parameter")]
     BadNumber(u8),
-    /// Want of memory (53200).
+    /// Out of memory (53200).
     #[error("out of memory")]
     Memory,
 }

@@ -32,7 +32,7 @@ impl Model for Names {
 }
 
 impl Names {
-    /// The list of these names. The error means want of memory.
+    /// The list of some names. The error means that memory ran out.
     pub fn copy_of(alloc: Global, names: &[Bytes]) -> Result<Names, Memory>
         requires { AreDistinct names.now }
         ensures { IfOk result (λ n. n ≡ names.now) }
@@ -44,7 +44,7 @@ impl Names {
         Ok(Names { set })
     }
 
-    /// The same names. The error means want of memory.
+    /// A copy of the names. The error means that memory ran out.
     pub fn copy(&self, alloc: Global) -> Result<Names, Memory>
         ensures { IfOk result (λ n. n ≡ self.now) }
     {

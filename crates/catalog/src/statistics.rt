@@ -99,7 +99,7 @@ pub(crate) fn is_count(n: u64) -> bool
     1 <= n && n <= MOST_NUMBER
 }
 
-/// The first place, in text order from 0, at which a number or a literal is refused. None where nothing is. DISTINCT
+/// The first place, in text order from 0, at which a number or a literal is refused; None where nothing is. DISTINCT
 /// and NULLS are places 0 and 1; after them come each common value and its share, then the bounds. No value is NULL,
 /// and all are of one type.
 pub(crate) fn first_refused(s: &ColumnStats) -> Option<u8>

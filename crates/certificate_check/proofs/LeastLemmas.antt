@@ -74,7 +74,7 @@ module _ (c : Contents) (q : Query) (t : Certificate) where
           let same : suc k ≡ n + 1 = omega (arith, most, lt) in
           here sorted x (subst (λ (m : ℕ). IsPriced c q t (record { sorted = sorted; entry = m }) x) same p)
 
-  -- so for all sides
+  -- no price of any side is better
   pub least-all : (n : ℕ) (least : Price) → length t.entries ≤ n → IsLeastBefore n least → (s : Side) (x : Price) → IsPriced c q t s x → IsNoWorse least x
   least-all n least le h s x p =
       let i = some-input (sorted_if s.sorted (order_keys q.classes q.order)) (unfold_at q t s.entry) p.plan p.is in
@@ -115,7 +115,7 @@ module _ (c : Contents) (q : Query) (t : Certificate) where
           at true e = absurd (all p.plan (priced-over s x p) (p.has.yes e))
           at false e = let le = (h over.side (price-of o) (over-priced o over)).dearer e in let is = p.has.amount_is in omega (arith, le, is)
 
-  -- and the least is no worse than any
+  -- the least price is no worse than any
   among-least : (s r : Side) (x y : Price) (p : IsPriced c q t s x) → IsLeastAmong c q (IsOver c q t) p.plan → IsPriced c q t r y → IsNoWorse x y
   among-least s r x y p least b = record { admissible = by; dearer = none }
     where

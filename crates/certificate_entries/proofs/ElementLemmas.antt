@@ -79,7 +79,7 @@ module _ (c : Contents) (q : Query) where
   in_list-has no_trees h = λ i d lt. absurd (omega (arith, lt))
   in_list-has (tree_and b bs) h = All-cons (HasElementText c q) b (in_list bs) h.0 (in_list-has bs h.1)
 
-  -- and a list as those of an AND
+  -- a list of trees as those of an AND
   pub trees-has : (bs : List BitTree) → All (HasElementText c q) bs → HaveElementTexts c q (trees_of bs)
   trees-has [] h = tt
   trees-has (b ∷ bs) h = (All-head (HasElementText c q) b bs h, trees-has bs (All-tail (HasElementText c q) b bs h))

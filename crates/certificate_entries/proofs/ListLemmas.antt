@@ -20,7 +20,7 @@ module _ {A : Type 0} (Has : A → Type 0) (text : A → List ℕ) (Ends : List 
     pub each : All Has more
     pub spells : left ≡ with_commas (codes ", ") (map text more) ++ rest
 
-  -- the same whatever the things are
+  -- some of the things were read, and the others are left, whatever the things are
   pub record IsListLeft (old : List ℕ) (taken : List A) (left : List ℕ) : Type 0 where
     pub is : (xs : List A) (rest : List ℕ) → All Has xs → 1 ≤ length xs → Ends rest → has_no_comma rest ≡ true → old ≡ with_commas [] (map text xs) ++ rest → IsLeft xs rest taken left
 

@@ -74,7 +74,7 @@ by-members : (m : Method) (t : ClassTable) (r : ℕ) (backward : Bool) (ks : Lis
 by-members Btree t r backward ks = from-members t r backward [] ks
 by-members Hash t r backward ks = tt
 
--- those of a list that joins two sets, in either
+-- the keys of a list that joins two sets are classes with members in either
 listed-members : (t : ClassTable) (s : Set) (keys : Keys) → AreKeys t s keys → AllByRecursion (HasMember t s) keys
 listed-members t s [] h = tt
 listed-members t s (n ∷ ns) h = (some-none h.0.member (first_in (class_at t.classes n) s) h.0.first, listed-members t s ns h.1)

@@ -37,7 +37,7 @@ ends-at [] n d lt e = absurd (omega (arith, lt))
 ends-at (b ∷ bs) zero d lt e = ap (λ (t : Bool). cond t 0 (suc (line_end bs))) e
 ends-at (b ∷ bs) (suc n) d lt e = ends-at bs n d (omega (arith, lt)) e
 
--- the same with what follows as a slice has it
+-- a text is its first line, the LF, and what follows as a slice has it
 pub cut-at : (text : List ℕ) (n : ℕ) → n ≡ line_end text → n < length text →
     (text ≡ ended (take n text) ++ take (length text - (n + 1)) (drop (n + 1) text)) × (is_line (take n text) ≡ true)
 cut-at text n e lt =

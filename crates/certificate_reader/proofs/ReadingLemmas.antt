@@ -186,7 +186,7 @@ module _ (c : Contents) (q : Query) where
               ap₂ (λ (l : List Entry) (b : Side). record { entries = l; best = b }) parts.0 (at.read.only o.best has.best (at.read.is ∙ parts.1));
         }
 
-    -- a block that does not begin as every text does is at fault at its first line
+    -- a block that does not begin as every text does is wrong at its first line
     pub no-head : (block : List ℕ) → ((rest : List ℕ) → ¬ (block ≡ head_text q.window ++ rest)) → IsFaultLine c q block 1
     no-head block none = record {
       before = [];
@@ -215,7 +215,7 @@ module _ (c : Contents) (q : Query) where
             (λ b. text-begins (take (line_end block) block) (drop (suc (line_end block)) block) q.window b.rest x.line x.is none (entries_text c q 1 b.text.certificate.entries ++ ended (best_line b.text.certificate.best)) b.text.is)
         by-end (inr le) = at_end (whole-line block le) (λ t. none (entries_text c q 1 t.certificate.entries ++ ended (best_line t.certificate.best)) (sym t.is))
 
-  -- a block with a line at fault is no text
+  -- a block with a wrong line is no text
   pub fault-is-none : (block : List ℕ) (number : ℕ) → IsFaultLine c q block number → ¬ IsText c q block
   fault-is-none block number f t = by (joined f.before) f.rest f.split f.stops where
     by : (part rest : List ℕ) → block ≡ part ++ rest → Stops c q part rest → ⊥

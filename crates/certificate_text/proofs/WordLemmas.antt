@@ -62,7 +62,7 @@ stops-behind (b ∷ bs) = by (is_in_name b) refl (stops-behind bs)
     by true e h = h
     by false e h = ap not e
 
--- the same with what is left as a slice has it
+-- a word before what stops is the whole word, with what is left as a slice has it
 pub word-left : (text : List ℕ) (n : ℕ) → n ≡ word_end text → (text ≡ take n text ++ take (length text - n) (drop n text)) × (list_all is_in_name (take n text) ≡ true) × (stops (take (length text - n) (drop n text)) ≡ true)
 word-left text n e =
     let all : take (length text - n) (drop n text) ≡ drop n text = take_all (length text - n) (drop n text) (let l = length-drop n text in omega (arith, l)) in (

@@ -16,7 +16,7 @@ use Rattle.plan_check.specs.declared.verdict.Reason.{Reason}
 use Rattle.plan_check.specs.declared.verdict.Reason.TheVariants as reasons
 use Rattle.check_reply.specs.Checked.{HasWords, IsReasonText, bad_node_text, bad_number_text, fault_text, is_uncovered, number_name}
 
--- a number is told by its digits
+-- a number is given by its digits
 number-same : (n m : ℕ) → n < 2 ^ 64 → m < 2 ^ 64 → decimal n ≡ decimal m → n ≡ m
 number-same n m a b e = sym (decimal_is_IsNumeral n a).1 ∙ ap (digits_value 10) e ∙ (decimal_is_IsNumeral m b).1
 

@@ -81,7 +81,7 @@ module _ (q : Query) where
   pub made-all : (mask left : ℕ) (es : List Element) (is others : List IndexNo) (made : List BitTree) → IsMadeSo q mask es is made left [] others → made ≡ trees_by q mask es is
   made-all mask left es is others made h = sym (append-nil made) ∙ h.whole
 
-  -- so with the next element that there is
+  -- the next element that there is, made with the first ones
   module _ (mask left n : ℕ) (els : List Chosen) (is others : List IndexNo) (old : List Bits) (d : Chosen) (lt : n < length els)
       (h : IsMadeSo q mask (map element els) is (map bits old) left (map element (drop n els)) others) where
     at-next : IsMadeSo q mask (map element els) is (map bits old) left (element (get_or els n d) ∷ map element (drop (n + 1) els)) others
@@ -118,7 +118,7 @@ module _ (c : Contents) (q : Query) (r : ℕ) (p : Set) where
       ∙ ap (λ (js : List IndexNo). some_arm k is ∷ trees_by q n es js) (drop-append_seam is others)
       ∙ ap (λ (ts : List BitTree). some_arm k is ∷ ts) rest))
 
-  -- so do several
+  -- trees that are elements take their own indexes
   trees-are : (es : List Element) (n : ℕ) (bs : BitTrees) (pad : List IndexNo) → elements_of c q r p bs ≡ map Some (marked n es) → HaveArms c q r p bs → trees_by q n es (arms_in_all bs ++ pad) ≡ in_list bs
   trees-are [] n no_trees pad e h = refl
   trees-are [] n (tree_and b bs) pad e h = cc

@@ -7,7 +7,7 @@ use pg_base::Memory;
 use plan_check::Number;
 use std::alloc::Global;
 
-/// That a block is no certificate's text, and the first wrong line.
+/// The text that a block is no certificate's text, with the first wrong line.
 pub(crate) fn fault_text(alloc: Global, line: u32) -> Result<Vec<u8>, Memory>
     ensures { IfOk result (λ text. text.items ≡ texts.fault_text line) }
 {

@@ -61,7 +61,7 @@ pub left-of : (old new : List Terminal) (r : Result Placed Refusal) → ((l : Li
 left-of old new (Ok x) each = each
 left-of old new (Err e) each = tt
 
--- a common value whose literal is read, and its share; or the literal is at fault
+-- a common value whose literal is read, and its share; or the literal is wrong
 pub share-ok : (t : SqlType) (w : CommonWords) (x : Placed) (n : Number) → placed t w.0 ≡ Ok x → n ≡ numbered w.1 → common_placed t w ≡ Ok (record { literal = x; share = n })
 share-ok t w x n is number =
     ap (λ m. next m (λ (p : Placed). Ok (record { literal = p; share = numbered w.1 }))) is ∙ ap (λ (k : Number). Ok (record { literal = x; share = k })) (sym number)

@@ -13,7 +13,7 @@ no-create [] other = refl
 no-create (t_key Create k ∷ rest) other = absurd (other rest (k, refl))
 no-create (_ ∷ rest) other = refl
 
--- it is, and INDEX does not follow
+-- CREATE is next, and INDEX does not follow
 no-index : (k : Token) (left : List Terminal) → BeginsNot (λ token. t_name (free Index token)) left → false ≡ begins_index (t_key Create k ∷ left)
 no-index k [] other = refl
 no-index k (t_name (free Index t) ∷ rest) other = absurd (other rest (t, refl))

@@ -21,7 +21,7 @@ pub sizes-left : (old mid new : List Terminal) (title : Spelled) → SpellsSizes
 sizes-left old mid new title (inl (t, r, rows, b, pages, rest, is)) begins other same = (r, rows, b, pages, rest, same ∙ (named t (words_of_sizes r rows b pages rest) title old mid is begins).1)
 sizes-left old mid new title (inr (t, m, c, a, d, b, n, cs, h, rest, commons, bounds, is)) begins other same = absurd (other _ (m, (named t _ title old mid is begins).1))
 
--- the table that is told
+-- the table that is given
 pub table-told : (cat : Contents) (t : Ident) (title : Spelled) (r : Result TableNo Fault) → title ≡ spelled t → known S2 title.token (table_named cat title.bytes) ≡ r → table_of_name cat t ≡ r
 table-told cat t title r is told = ap (λ (x : Spelled). known S2 x.token (table_named cat x.bytes)) (sym is) ∙ told
 

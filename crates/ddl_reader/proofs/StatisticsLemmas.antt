@@ -83,7 +83,7 @@ module _ (t : SqlType) where
     statistics-ok cs ps distinct nulls commons bounds =
         rw (shares-ok ws cs commons, bounds-ok ls ps bounds, shares-placed ws cs commons, bounds-placed ls ps bounds, distinct, nulls, narrowed (digits_value 10 n.value)) refl
 
-    -- a common value is at fault, or a bound is
+    -- a common value is wrong, or a bound is
     pub common-err : (f : Fault) → bound_each (common_placed t) ws ≡ Err f → statistics_of t k.table k.col d n ws ls ≡ Err f
     common-err f wrong = rw (shares-err ws f wrong) refl
 

@@ -27,7 +27,7 @@ IsAsMeant T V view (Ok x) meant = meant ≡ Ok (view x)
 IsAsMeant T V view (Err (refusal.Fault f)) meant = meant ≡ Err f
 IsAsMeant T V view (Err refusal.Memory) meant = Unit {0}
 
--- the same of what takes no memory
+-- what is read without memory, seen by `view`, is what is meant, and a fault is the fault that is meant
 abbrev pub Tells : (T V : Type 0) → (T → V) → Result T Refusal → Result V Fault → Type 0
 Tells T V view (Ok x) meant = meant ≡ Ok (view x)
 Tells T V view (Err (refusal.Fault f)) meant = meant ≡ Err f
@@ -83,7 +83,7 @@ words_of_bounds_left l ls m rest = words_of_lit l ++ (words_of_bounds ls ++ t_ma
 abbrev pub placed : SqlType → Lit → Result Placed Fault
 placed t l = next (typed_value t l) (λ v. Ok (record { value = v; token = place_of_lit l }))
 
--- a common value of a column of this type with its share as it is written: the literal alone can be at fault
+-- a common value of a column of a type with its share as it is written: the literal alone can be wrong
 abbrev pub common_placed : SqlType → CommonWords → Result CommonRead Fault
 common_placed t w = next (placed t w.0) (λ p. Ok (record { literal = p; share = numbered w.1 }))
 
@@ -99,7 +99,7 @@ words_of_lists cs h rest = words_of_common cs ++ (words_of_histogram h ++ rest)
 abbrev pub words_of_column : Ident → Terminal → Said → Terminal → Said → Common → Histogram → List Terminal → List Terminal
 words_of_column c a d b n cs h rest = t_name c ∷ a ∷ t_number d ∷ b ∷ t_number n ∷ words_of_lists cs h rest
 
--- those of a table from ROWS on are all that is left
+-- the words of STATISTICS of a table from ROWS on are all that is left
 abbrev pub SpellsSizesPart : List Terminal → Type 0
 SpellsSizesPart ts =
     (r : Ident) × (rows : Said) × (b : Terminal) × (pages : Said) × (rest : List Terminal) ×
@@ -111,7 +111,7 @@ SpellsLists ts =
     (cs : Common) × (h : Histogram) × (rest : List Terminal) × (ends_common rest ≡ true) × (ends_histogram rest ≡ true) ×
     (ts ≡ words_of_lists cs h rest)
 
--- those of a column from its name on are all that is left: no list of literals follows them
+-- the words of STATISTICS of a column from its name on are all that is left: no list of literals follows them
 abbrev pub SpellsColumnPart : List Terminal → Type 0
 SpellsColumnPart ts =
     (c : Ident) × (a : Terminal) × (d : Said) × (b : Terminal) × (n : Said) × (cs : Common) × (h : Histogram) ×

@@ -37,7 +37,7 @@ refuses_null (nullable _) = false
 abbrev pub defined_column : ColDef → Written
 defined_column (coldef name kind nulls) = record { name = bytes_of name; name_at = token_of name; kind = bytes_of kind; kind_at = token_of kind; not_null = refuses_null nulls }
 
--- a column of this name and of the type of that name, as they were read
+-- a column by its name and the name of its type, as they were read
 abbrev pub written_column : Spelled → Spelled → Bool → Written
 written_column name kind strict =
     record { name = name.bytes; name_at = name.token; kind = kind.bytes; kind_at = kind.token; not_null = strict }
@@ -46,7 +46,7 @@ written_column name kind strict =
 abbrev pub further : List (Mark × ColDef) → List Written
 further = further_parts defined_column
 
--- with its type, where there is one of the name; else the type's name is at fault
+-- a column with its type, where there is one of the name; else the fault is at the type's name
 abbrev pub bound_by : Option SqlType → Written → Result BoundColumn Fault
 bound_by None w = Err (fault_at S8 w.kind_at)
 bound_by (Some t) w = Ok (record { name = w.name; name_at = w.name_at; column = record { typed = t; not_null = w.not_null } })

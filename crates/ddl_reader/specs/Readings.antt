@@ -65,19 +65,19 @@ statistics_read c commons bounds = record {
 abbrev pub IsReadingOf : Result Read Refusal → Result Reading Fault → Type 0
 IsReadingOf = IsAsMeant Read Reading reading
 
--- what is made is this, or there was no memory
+-- what is made is a given reading, or there was no memory
 abbrev pub IsMadeAs : Result Read Refusal → Reading → Type 0
 IsMadeAs result meant = MatchResult result (λ r. reading r ≡ meant) (λ e. e ≡ refusal.Memory)
 
--- the words are those of COPY
+-- words are those of COPY
 abbrev pub AreOfCopy : List Terminal → Type 0
 AreOfCopy ts = (k : CopyWords) × (n : Ident) × (null : Said) × (ts ≡ words_of (copy k n null))
 
--- where they are, this holds of its parts
+-- where words are those of COPY, a property holds of its parts
 abbrev pub IfCopy : List Terminal → (CopyWords → Ident → Said → Type 0) → Type 0
 IfCopy ts P = (k : CopyWords) (n : Ident) (null : Said) → ts ≡ words_of (copy k n null) → P k n null
 
--- this is where the last token ends
+-- an offset is where the last token ends
 abbrev pub IsLastEnd : List Token → ℕ → Type 0
 IsLastEnd tokens end = (before : List Token) × (token : Token) × (tokens ≡ before ++ token ∷ []) × (end ≡ token.end)
 

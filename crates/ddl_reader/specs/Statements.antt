@@ -81,7 +81,7 @@ pub record HaveNoSyntaxFault (text : List ℕ) (tokens : List Token) : Type 0 wh
   pub spelled : IsSpelled statement text tokens
   pub line : HasNoLineFault text statement
 
--- why a statement is refused: its first fault, or want of memory for one that begins so and whose syntax has no fault
+-- why a statement is refused: its first fault, or out of memory for a definition whose syntax has no fault
 abbrev pub IsDdlRefusal : Contents → List ℕ → List Token → Refusal → Type 0
 IsDdlRefusal cat text tokens (refusal.Fault f) = IsDdlFault cat text tokens f (begins_ddl (terminals text tokens))
 IsDdlRefusal cat text tokens refusal.Memory = (begins_ddl (terminals text tokens) ≡ true) × HaveNoSyntaxFault text tokens

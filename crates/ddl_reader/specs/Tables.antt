@@ -39,7 +39,7 @@ table_reading name token bs = record {
   at = token.start ∷ map (λ b. b.name_at.start) bs;
 }
 
--- the first column past the limit is at fault, at its name
+-- where there are columns past the limit, the fault is at the name of the first
 abbrev pub limited_columns : Reading → List BoundColumn → Result Reading Fault
 limited_columns reading [] = Ok reading
 limited_columns reading (b ∷ _) = Err (fault_at (S15 Columns) b.name_at)

@@ -136,7 +136,7 @@ fn check_syntax(text: &[u8], tokens: &Tokens) -> Result<(), Refusal>
 /// of syntax come first (42601, 54000), for COPY
 /// those of the rest of its line included. Then names and literals bind from the left: an unknown type (42704), an unknown
 /// table (42P01) and an unknown column (42703) at the word, a text for NULL other than `\N` (22023) at that text. A literal of
-/// STATISTICS that gives no value to the column is at fault at its first byte, a `-` included: 22003, 22P02 or 42804, and 22023
+/// STATISTICS that gives no value to the column is wrong at its first byte, a `-` included: 22003, 22P02 or 42804, and 22023
 /// for NULL. Then comes the limit of 32 columns (54000), at the first name too many.
 ///
 /// What the catalogue refuses is not asked here, but what is read may be handed to it: names are names, each of the 1 to 32

@@ -47,7 +47,7 @@ fn made(alloc: Global, name: Spelled, defs: Vec<ColumnDef>) -> Result<Read, Refu
     })
 }
 
-/// The limit of a table's columns (54000): the first name too many is at fault.
+/// The limit of a table's columns (54000): the fault is at the first name too many.
 fn limit(defs: &[ColumnDef]) -> Result<(), Refusal>
     ensures { MatchResult result
         (λ _. length defs.now ≤ MOST_COLUMNS)

@@ -1,4 +1,4 @@
--- The costs of joins and sorts by what their sides are reckoned by.
+-- The costs of joins and sorts by what the costs of their sides are computed from.
 use Rattle.std.proofs.Common.{◌≡◌, ◌-◌, ◌^◌, ◌&&◌, ℕ, false, List, length, min, nat_lt, not, refl, sym, ◌∙◌, ap}
 use Rattle.pg_base.specs.Sets.{has}
 use Rattle.pg_base.specs.declared.rel_set.RelSet.{RelSet}
@@ -33,7 +33,7 @@ nest-operators-are q t tested none a o i n same reads h g e =
     e ∙ ap (λ m. min m (2 ^ 64 - 1)) (join_operators_are (joins (has a.0) i) t.clauses tested none h g)
     ∙ (λ z. min (operators (conditions_where (joins (as-set z) i) (same z).clauses)) (2 ^ 64 - 1))
 
--- and of a merge of two sets by some classes
+-- the operators of the clauses found, which are those of a merge of two sets by some classes
 pub merge-operators-are : (q : Query) (t : ClassTable) (keys tested none equal : List ℕ) (a b : RelSet) (n : ℕ) → t ≡ q.classes →
     ((k : ℕ) → contains tested k ≡ nat_lt k (length t.clauses) && is_join (has a.0) (has b.0) (clause_at t.clauses k)) → ((k : ℕ) → contains none k ≡ false) →
     ((k : ℕ) → contains equal k ≡ nat_lt k (length t.clauses) && (is_join (has a.0) (has b.0) (clause_at t.clauses k) && is_pair_of keys (clause_at t.clauses k))) →

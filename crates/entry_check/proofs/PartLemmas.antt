@@ -41,7 +41,7 @@ module _ (c : Contents) (q : Query) where
     pub relation-below : (k : ℕ) → has e.set.0 k ≡ true → k < width q
     relation-below k is = read-below (width q) p k (built-below c q p r.has.plan.built) (r.has.plan.set_is k ∙ is)
 
-    -- what it is reckoned by
+    -- what the cost of a side is computed from
     pub entry-part : (startup : ℕ) → HaveRows c q → startup ≡ startup_kept q.window e.startup → IsPart c q (record { set = e.set; param = e.param; cost = pair startup e.cost; rows = e.rows }) p
     entry-part startup some f =
         let x = path-cost c q (as_path q e p) some (path-numbers c q e p r) r.has.admissible in
@@ -63,7 +63,7 @@ module _ (c : Contents) (q : Query) where
     whole : IsEmpty (has e.param.0) → IsEmpty (param_of p)
     whole none k = r.has.plan.param_is k ∙ none k
 
-    -- and sorted
+    -- a side that is sorted
     pub side-sorted : (keys : Keys) (s : Bool) (x y : Part) → s ≡ true → IsEmpty (has e.param.0) → IsPart c q x p → (IsPart c q x p → IsEmpty (param_of p) → IsPart c q y (sort keys p)) → IsPart c q y (sorted_if s keys p)
     side-sorted keys true x y is none h f = f h (whole none)
     side-sorted keys false x y is none h f = cc

@@ -48,7 +48,7 @@ module _ (q : Query) (t : Certificate) where
       let count : length (take n ps) ≡ n = length-take-le n ps many in
       sym (at-lower (take n ps) (drop n ps) m (omega (arith, count, le))) ∙ ap (λ xs. plan_at xs m) (take-append-drop n ps)
 
-  -- and one past it none
+  -- a number past a place has no plan there
   pub none-past : (n m : ℕ) → n < m → plan_at (plans_before q t n) m ≡ None
   none-past n zero lt = absurd (omega (arith, lt))
   none-past n (suc k) lt =
@@ -69,7 +69,7 @@ module _ (q : Query) (t : Certificate) where
         right = record { has = h.has; numbers = h.numbers };
       }
 
-  -- the same of the entry that was read
+  -- the plan of an entry that was read before a place
   pub plan-read : (c : Contents) (xs items : List Entered) (n m : ℕ) (x : Entered) → t.entries ≡ map entry xs → items ≡ xs → n ≤ length t.entries → AreRight c q t n → 1 ≤ m → m ≤ n → x ≡ get_or items (m - 1) x → HasPlanAt c q (plans_before q t n) m (entry x)
   plan-read c xs items n m x es e within right some le is =
       plan-before c n m (m - 1) (entry x) within right (omega (arith, some)) le (read-there t xs items (m - 1) x es e (omega (arith, within, some, le)) is)

@@ -88,7 +88,7 @@ same-list (m ∷ ms) (n ∷ ns) h end =
     let tail : ns ≡ ms = same-list ms ns (λ k lt. h (suc k) (omega (arith, lt))) end in
     ap₂ (λ (k : ℕ) (ks : Keys). k ∷ ks) (sym head) tail
 
--- and ends where it does
+-- a list that is another ends where it does
 pub list-ends : (own list : Keys) → list ≡ own → slice_get own (length list) ≡ None
 list-ends own list e = slice_get_past own (length list) (let long : length list ≡ length own = ap length e in omega (arith, long))
 
@@ -143,7 +143,7 @@ module _ (c : Contents) (q : Query) where
         same-list (keys_of c q (tree_of s)) (class_numbers list) (λ k lt. h k (omega (arith, lt, long, le)))
         (ap (slice_get (keys_of c q (tree_of s))) long ∙ ap (λ (ks : Keys). slice_get ks (length list)) (sym tree-keys) ∙ sym end)
 
-    -- and where they do not
+    -- a list that is found at each place, where the keys do not end after it
     pub some-end : (list : List ClassNo) (n : ℕ) → Some n ≡ slice_get (scan_keys c q s.rel s.index s.backward s.param) (length list) → ¬ (class_numbers list ≡ keys_of c q (tree_of s))
     some-end list n found same =
         let long : length (class_numbers list) ≡ length list = length-map list (λ (x : ClassNo). x.0) in

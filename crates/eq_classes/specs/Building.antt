@@ -112,12 +112,12 @@ left_by (Some e) = Some (left_of e)
 abbrev pub mention_in : (ColRef → SqlType) → Cond → Option Mention
 mention_in type_of k = left_by (equality_in type_of k)
 
--- those of the conjuncts, then those of ORDER BY
+-- some classes, then those of the equality conjuncts that none of them has
 abbrev pub by_conjuncts : Premises → List Part → List Cond → List Class → List Class
 by_conjuncts g ps [] cs = cs
 by_conjuncts g ps (k ∷ ks) cs = by_conjuncts g ps ks (with_mention g ps (mention_in g.type_of k) cs)
 
--- then the classes of ORDER BY columns that are in none yet
+-- some classes, then those of ORDER BY columns that are in none of them
 abbrev pub by_order : Premises → List Part → List OrderItem → List Class → List Class
 by_order g ps [] cs = cs
 by_order g ps (i ∷ is) cs = by_order g ps is (with_mention g ps (ordered_by g.type_of i) cs)

@@ -133,7 +133,7 @@ pub record AreClasses (g : Premises) (classes : List Class) : Type 0 where
   pub every : All (λ m. IsTrue (list_any (λ c. is_in c m) classes)) (mentions g)
   -- there is no other class
   pub none_else : All (λ c. first_mention g c < length (mentions g)) classes
-  -- they are numbered by their first conjunct, then by place in ORDER BY
+  -- the classes are numbered by their first conjunct, then by place in ORDER BY
   pub numbered : AllPairs (λ c d. first_mention g c < first_mention g d) classes
 
 -- the conditions of a list, in order

@@ -61,15 +61,15 @@ own_clause cs n e = clause (view.cond e) (by_class n (class_at cs n))
 abbrev pub paired_at : List Class → ℕ → ColRef → ColRef → Clause
 paired_at cs n x y = pair_clause n (class_at cs n) x y
 
--- those of a column with each of some others
+-- the pair clauses of a column with each of some others
 abbrev pub coupled : List Class → ℕ → ColRef → List ColRef → List Clause
 coupled cs n x others = map (pair_clause n (class_at cs n) x) others
 
--- those of each of some columns with each later one
+-- the pair clauses of each of some columns with each later one
 abbrev pub pairings : List Class → ℕ → List ColRef → List Clause
 pairings cs n firsts = each_pair (pair_clause n (class_at cs n)) firsts
 
--- a member of the class of a number with each of its constants
+-- `member = constant` for a member of the class of a number and each of the class's constants
 abbrev pub column_constants : List Class → ℕ → ColRef → List Clause
 column_constants cs n x = map (λ v. clause (equals_constant (class_at cs n) x v) (by_class n (class_at cs n))) (class_at cs n).constants
 
@@ -85,11 +85,11 @@ conjunct_at type_of n k = cond (is_some (equality_in type_of k)) [] (clause (as_
 abbrev pub inner_clause_at : List Class → ℕ → ColRef → List Clause
 inner_clause_at cs n x = inner_at n (class_at cs n) x
 
--- those of these members
+-- the clauses of those of some members that are not the first of their relations
 abbrev pub inner_of : List Class → ℕ → List ColRef → List Clause
 inner_of cs n members = flat_map (inner_at n (class_at cs n)) members
 
--- those of all members of the class of a number
+-- the clauses of all members of the class of a number that are not the first of their relations
 abbrev pub inner_clauses_at : List Class → ℕ → List Clause
 inner_clauses_at cs n = inner_clauses n (class_at cs n)
 

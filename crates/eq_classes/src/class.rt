@@ -328,7 +328,7 @@ fn note_value(alloc: Global, values: &mut Vec<Value>, f: Family, v: &Value) -> R
     Ok(())
 }
 
-/// The same, where there is a value.
+/// Puts a value, where there is one, at the end of a list where none is equal.
 fn note_literal(
     alloc: Global,
     values: &mut Vec<Value>,
@@ -450,7 +450,7 @@ fn note_mention<B: Binding>(
     Ok(())
 }
 
-/// The same for the left column of an equality conjunct.
+/// Puts the class of an equality conjunct's left column at the end of the classes where none has it.
 #[tactic(auto, using(crate::proofs::SearchLemmas::helps))]
 fn note_conjunct<B: Binding>(
     from: &Source<B>,
@@ -470,7 +470,7 @@ fn note_conjunct<B: Binding>(
     }
 }
 
-/// The same for an item of ORDER BY.
+/// Puts the class of an ORDER BY item's column at the end of the classes where none has it.
 #[tactic(auto, using(crate::proofs::SearchLemmas::helps))]
 fn note_item<B: Binding>(
     from: &Source<B>,

@@ -76,7 +76,7 @@ impl Classes {
 
     /// The classes and clauses of conjuncts in pushed form, none of them an AND, and an ORDER BY. The conditions are
     /// that each conjunct is well typed, that each column is bound and of a relation below 16, and that there are at
-    /// most `MOST_CONJUNCTS` conjuncts. The error means want of memory.
+    /// most `MOST_CONJUNCTS` conjuncts. The error means that memory ran out.
     pub fn build<B: Binding>(
         alloc: Global,
         conjuncts: Exprs,

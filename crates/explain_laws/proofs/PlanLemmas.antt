@@ -303,6 +303,6 @@ module _ (c : Contents) (q : Query) where
         let d = first_depth q.window in
         (plan-split a b d [] [] (shown-tells a h) (shown-tells b g) (shallow-end d) (shallow-end d) (ap (λ (l : List ℕ). l ++ []) e)).0
 
-    -- and so are plans of which the same is printed: the line of LIMIT and OFFSET tells at most their prices apart
+    -- plans of which the same is printed are one: the line of LIMIT and OFFSET tells at most their prices apart
     pub printed-tells : (a b : Plan) → IsShown c q a → IsShown c q b → explained_text c q a ≡ explained_text c q b → a ≡ b
     printed-tells a b h g e = text-tells a b h g (behind-line q.window a b (plan_text c q a) (plan_text c q b) e)

@@ -115,7 +115,7 @@ negated-whole : (m : Result Conds Fault) (n : Negated) (whole : Conds → Cond) 
 negated-whole (Ok xs) n whole = refl
 negated-whole (Err f) n whole = refl
 
--- that NOT is written is what was taken
+-- NOT is written
 abbrev pub is_written : Negated → Bool
 is_written no_not = false
 is_written (not_before k) = true
@@ -237,7 +237,7 @@ module _ (scope : Scope) (type_of : ColRef → SqlType) where
   list-next (column_alone c) s rest old mid left b word flat ends side is none t ahead = absurd (ended-in rest old mid left word b ends t is ahead)
   list-next (constant_alone k d) s rest old mid left b word flat ends side is none t ahead = absurd (ended-in rest old mid left word b ends t is ahead)
 
-  -- its side is the column that was read
+  -- the side of a list's column is the column that was read
   pub listed-side : (s : Side) (c : ColRef) (t : SqlType) (first : Token) → Column c t first ≡ side_read s → s ≡ of_column c t first
   listed-side (of_column d u q) c t first is = cc (is)
   listed-side (of_literal l) c t first is = absurd (cc (is))
@@ -245,11 +245,11 @@ module _ (scope : Scope) (type_of : ColRef → SqlType) where
   literal-by : (c : Col) (s : Side) (x : Literal) → side_of scope type_of (column c) ≡ Ok s → LiteralSide x ≡ side_read s → ⊥
   literal-by c s x side read = no-column scope type_of _ s _ x side read
 
-  -- and no literal
+  -- the side of a list's column is no literal
   pub listed-column : (a : Atom) (s : Side) (b : Bool) (word : Token) (rest left : List Terminal) (x : Literal) → IsListed a s b word rest left → LiteralSide x ≡ side_read s → ⊥
   listed-column a s b word rest left x at read = literal-by at.col s x at.side read
 
-  -- so it is a column
+  -- a side that means a column was read as one
   pub listed-read : (s : Side) (left : SideRead) (col : Col) → side_of scope type_of (column col) ≡ Ok s → left ≡ side_read s → ((c : ColRef) (t : SqlType) (first : Token) → ¬ (left ≡ Column c t first)) → ⊥
   listed-read (of_column c t first) left col side read none = none c t first read
   listed-read (of_literal m) left col side read none = literal-by col (of_literal m) (literal_of m) side refl

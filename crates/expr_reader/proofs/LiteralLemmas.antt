@@ -71,7 +71,7 @@ pub no-text : (found : Option Spelled) (old new : List Terminal) → ((s : Spell
 no-text None old new absent given = given
 no-text (Some s) old new absent given = absurd (absent s refl)
 
--- the same after the calls that found nothing else
+-- a number, after the calls that found nothing else
 pub number-left : (l : Lit) (rest old second third : List Terminal) → second ≡ old → BeginsNot (t_mark Minus) old → (third ≡ second) × BeginsNoQuoted second →
     ((c : Constant) (k : Token) (left : List Terminal) → ¬ (third ≡ t_key (constant_word c) k ∷ left)) → old ≡ words_of_lit l ++ rest → OnlyNumber l rest old
 number-left l rest old second third first minus text constants is =

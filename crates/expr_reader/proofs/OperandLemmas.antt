@@ -43,19 +43,19 @@ bare-column scope c n s f bytes is says found value =
     let now : f ≡ look_up scope None (bytes_of n) = found ∙ ap (look_up scope None) (value ∙ ap (λ (x : Spelled). x.bytes) says) in
     ap (λ (x : Spelled). the_column f x.token x.token) says ∙ (ap (λ (x : Found). the_column x (token_of n) (token_of n)) now ∙ ap (column_of scope) (sym is))
 
--- a column that is told is the one that was found
+-- a column that is given is the one that was found
 pub is-found : (f : Found) (first name : Token) (x : ColRef) → the_column f first name ≡ Ok x → f ≡ One x
 is-found (One c) first name x is = let same : c ≡ x = cc (is) in ap One same
 is-found NoTable first name x is = absurd (cc (is))
 is-found NoColumn first name x is = absurd (cc (is))
 is-found Many first name x is = absurd (cc (is))
 
--- the token of its first word
+-- the token of a column's first word
 pub first-place : (c : Col) (rest old : List Terminal) (t : Token) → old ≡ words_of_col c ++ rest → ((w : Terminal) (left : List Terminal) → old ≡ w ∷ left → t ≡ token_in w) → t ≡ place_of_col c
 first-place (bare n) rest old t is told = told (t_name n) rest is
 first-place (qualified q d n) rest old t is told = told (t_name q) (t_mark Dot d ∷ t_name n ∷ rest) is
 
--- a side whose column is told
+-- a side whose column is given
 pub side-told : (scope : Scope) (type_of : ColRef → SqlType) (c : Col) (x : ColRef) (t : SqlType) (first : Token) → column_of scope c ≡ Ok x → t ≡ type_of x → first ≡ place_of_col c → Ok (Column x t first) ≡ side_meant scope type_of (column c)
 side-told scope type_of c x t first is typed place =
     ap (λ u. Ok (Column x u first)) typed ∙ (ap (λ p. Ok (Column x (type_of x) p)) place ∙

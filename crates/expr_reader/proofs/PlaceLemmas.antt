@@ -32,7 +32,7 @@ module _ {X : Type 0} (p : X → Bool) where
   some-from i [] = refl
   some-from i (x ∷ xs) = one-found (p x) (list_any p xs) i (position_from p (i + 1) xs) (some-from (i + 1) xs)
 
-  -- it stands there where it has a first place
+  -- an item that passes stands in a list exactly where there is a first place of one
   pub some-any : (xs : List X) → is_some (position p xs) ≡ list_any p xs
   some-any xs = ap is_some (position_from-zero p xs) ∙ some-from 0 xs
 

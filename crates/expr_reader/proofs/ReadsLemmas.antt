@@ -16,7 +16,7 @@ pub read-as : (T A : Type 0) (seen : T → A) (m : Result A Fault) (r : Result T
 read-as T A seen m (Ok y) x rest left now so same is words = let value : y ≡ x = cc (so) in read-ok T A seen m y rest now (ap (λ (z : T). Ok (seen z)) value ∙ is) (same ∙ words)
 read-as T A seen m (Err e) x rest left now so same is words = absurd (cc (so))
 
--- want of memory
+-- memory ran out
 pub read-memory : (T A : Type 0) (seen : T → A) (m : Result A Fault) (rest left : List Terminal) → Reads seen m rest (Err refusal.Memory) left
 read-memory T A seen (Ok a) rest left = tt
 read-memory T A seen (Err f) rest left = tt

@@ -23,7 +23,7 @@ no-nulls no_nulls_end rest old new b same other e = (refl, same ∙ e)
 no-nulls (nulls_first n f) rest old new b same other e = absurd (other _ (n, e))
 no-nulls (nulls_last n l) rest old new b same other e = absurd (other _ (n, e))
 
--- it is, and FIRST does not follow
+-- NULLS is next, and FIRST does not follow
 pub is-last : (z : NullsEnd) (rest old mid new : List Terminal) (token : Token) (b : Bool) → ends_nulls_end rest ≡ true → old ≡ t_name (free Nulls token) ∷ mid → BeginsNot (λ token. t_name (free First token)) mid →
     new ≡ drop 1 mid → old ≡ words_of_nulls_end z ++ rest → (false ≡ has_nulls_first b z) × (new ≡ rest)
 is-last no_nulls_end rest old mid new token b ends is other skipped e = let wrong = ap ends_nulls_end (sym is ∙ e) ∙ ends in absurd (cc (wrong))

@@ -25,12 +25,12 @@ use Rattle.expr_reader.specs.declared.found.Found.TheVariants.{One, NoTable, NoC
 use Rattle.expr_reader.specs.Scope.{Scope, look_up}
 use Rattle.expr_reader.specs.Literals.{type_of_lit, literal_value}
 
--- then the next, or the first fault
+-- a step and then the next, or the first fault
 abbrev pub next : {A B : Type 0} → Result A Fault → (A → Result B Fault) → Result B Fault
 next (Ok x) more = more x
 next (Err fault) more = Err fault
 
--- the column that was found: an unknown qualifier is at fault itself, and else the name
+-- the column that was found, or its fault: where the qualifier is unknown, at the qualifier, and else at the name
 abbrev pub the_column : Found → Token → Token → Result ColRef Fault
 the_column (One c) qualifier name = Ok c
 the_column NoTable qualifier name = Err (fault_at S2 qualifier)
@@ -63,17 +63,17 @@ type_beside (Some t) other = t
 type_beside None (Some t) = t
 type_beside None None = types.Text
 
--- what it stands for, where a quoted text has this type
+-- what a side of a comparison stands for, where a quoted text has a type
 abbrev pub operand_of : SqlType → Side → Result Operand Fault
 operand_of t (of_column c _ _) = Ok (col_operand c)
 operand_of t (of_literal l) = next (literal_value t l) (λ v. Ok (lit_operand v))
 
--- the operator over two types: it is at fault where there is none
+-- the operator over two types, or the fault at its token where there is none
 abbrev pub operated : Option Op → Token → SqlType → SqlType → Operand → Operand → Result Cond Fault
 operated None token t u x y = Err (fault_at S9 token)
 operated (Some op) token t u x y = cond (does_exist op t u) (Ok (compared op x y)) (Err (fault_at S9 token))
 
--- two sides of these types by an operator: the literals from the left, then the operator
+-- two sides of two types by an operator: the literals from the left, then the operator
 abbrev pub compare_as : Said → SqlType → SqlType → Side → Side → Result Cond Fault
 compare_as op t u a b = next (operand_of t a) (λ x. next (operand_of u b) (λ y. operated (operator_of op.value) op.token t u x y))
 
@@ -81,7 +81,7 @@ compare_as op t u a b = next (operand_of t a) (λ x. next (operand_of u b) (λ y
 abbrev pub compare_sides : Said → Side → Side → Result Cond Fault
 compare_sides op a b = compare_as op (type_beside (own_type a) (own_type b)) (type_beside (own_type b) (own_type a)) a b
 
--- a column that is a condition by itself is bool, or its first token is at fault
+-- a column that is a condition by itself is bool, or the fault is at its first token
 abbrev pub flag_column : SqlType → ColRef → Token → Result Cond Fault
 flag_column types.Bool c token = Ok (bool_col c)
 flag_column _ c token = Err (fault_at S10 token)
@@ -108,7 +108,7 @@ and_of no_conds = all_of no_conds
 and_of (cond_and c no_conds) = c
 and_of (cond_and c (cond_and d ds)) = all_of (cond_and c (cond_and d ds))
 
--- an operator that is not written: the word that stands for it is at fault where there is none
+-- an operator that is not written: where there is none, the fault is at the word that stands for it
 abbrev pub standing_for : List ℕ → Token → Said
 standing_for operator word = record { value = operator; token = word }
 
@@ -132,12 +132,12 @@ module _ (scope : Scope) (type_of : ColRef → SqlType) where
   abbrev pub comparison : OperandTree → Said → OperandTree → Result Cond Fault
   comparison l op r = next (side_of l) (λ a. next (side_of r) (λ b. compare_sides op a b))
 
-  -- that a column is equal to each of some literals, from the left
+  -- the conditions that a column is equal to each of some literals, from the left
   abbrev pub equal_to : Col → Token → List Lit → Result Conds Fault
   equal_to c word [] = Ok no_conds
   equal_to c word (l ∷ ls) = then_parts (comparison (column c) (standing_for (codes "=") word) (literal l)) (equal_to c word ls)
 
-  -- that an operand is not below one and not above another
+  -- the conditions that an operand is not below one and not above another
   abbrev pub bounded_by : OperandTree → Token → OperandTree → OperandTree → Result Conds Fault
   bounded_by x word a b =
       then_parts (comparison x (standing_for (codes ">=") word) a)

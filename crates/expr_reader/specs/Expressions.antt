@@ -99,7 +99,7 @@ module _ (scope : Scope) (type_of : ColRef → SqlType) where
       (side_of scope type_of (front a) ≡ Ok s) ×
       (first ≡ side_read s) × (ts ≡ tail a rest)
 
-  -- it is read so that the atom is
+  -- what follows the operand with which an atom begins is read so that the atom is
   abbrev pub ReadsTail : SideRead → List Terminal → Result Expr Refusal → List Terminal → Type 0
   ReadsTail first old read left =
       (a : Atom) (s : Side) (rest : List Terminal) → is_parens a ≡ false → ends_atom rest ≡ true →

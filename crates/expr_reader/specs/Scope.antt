@@ -23,11 +23,11 @@ Scope = List Visible
 abbrev pub columns_in_scope : Scope → List ColRef
 columns_in_scope scope = map (λ v. v.column) scope
 
--- those of the relations under an alias
+-- the visible columns of the relations under an alias
 abbrev pub under : List ℕ → Scope → Scope
 under alias scope = filter (λ v. bytes_eq alias v.alias) scope
 
--- those of a name
+-- the visible columns of a name
 abbrev pub of_name : List ℕ → Scope → Scope
 of_name name scope = filter (λ v. bytes_eq name v.name) scope
 

@@ -37,7 +37,7 @@ side_read (of_literal l) = LiteralSide (literal_of l)
 abbrev pub side_meant : Scope → (ColRef → SqlType) → Operand → Result SideRead Fault
 side_meant scope type_of o = next (side_of scope type_of o) (λ s. Ok (side_read s))
 
--- where two sides and an operator are read so, this is what their comparison means, or its fault
+-- what the comparison of two sides by an operator, as they are read, means, or its fault
 abbrev pub IsComparison : Operator → SideRead → SideRead → Result Cond Fault → Type 0
 IsComparison operator left right meant =
     (o : Said) (a b : Side) → operator ≡ operator_said o → left ≡ side_read a → right ≡ side_read b → meant ≡ compare_sides o a b
@@ -46,22 +46,22 @@ IsComparison operator left right meant =
 abbrev pub IsNullWords : List Terminal → Type 0
 IsNullWords ts = ((null : Token) × (rest : List Terminal) × (ts ≡ t_key Null null ∷ rest)) ⊎ ((not : Token) × (null : Token) × (rest : List Terminal) × (ts ≡ t_key Not not ∷ t_key Null null ∷ rest))
 
--- where NULL is next, this is read, and what stands behind it is left
+-- where NULL is next, what it means is read, and what stands behind it is left
 abbrev pub ReadsNull : {A : Type 0} → A → List Terminal → A → List Terminal → Type 0
 ReadsNull meant old read left =
     (null : Token) (rest : List Terminal) → old ≡ t_key Null null ∷ rest → (read ≡ meant) × (left ≡ rest)
 
--- the same of NOT NULL
+-- where NOT NULL is next, what it means is read, and what stands behind it is left
 abbrev pub ReadsNotNull : {A : Type 0} → A → List Terminal → A → List Terminal → Type 0
 ReadsNotNull meant old read left =
     (not null : Token) (rest : List Terminal) → old ≡ t_key Not not ∷ t_key Null null ∷ rest → (read ≡ meant) × (left ≡ rest)
 
--- the same of IS NULL
+-- where IS NULL is next, what it means is read, and what stands behind it is left
 abbrev pub ReadsIsNull : {A : Type 0} → A → List Terminal → A → List Terminal → Type 0
 ReadsIsNull meant old read left =
     (is null : Token) (rest : List Terminal) → old ≡ t_key Is is ∷ t_key Null null ∷ rest → (read ≡ meant) × (left ≡ rest)
 
--- the same of IS NOT NULL
+-- where IS NOT NULL is next, what it means is read, and what stands behind it is left
 abbrev pub ReadsIsNotNull : {A : Type 0} → A → List Terminal → A → List Terminal → Type 0
 ReadsIsNotNull meant old read left =
     (is not null : Token) (rest : List Terminal) → old ≡ t_key Is is ∷ t_key Not not ∷ t_key Null null ∷ rest →

@@ -227,7 +227,7 @@ impl<'a> Cursor<'a> {
         }
     }
 
-    /// Takes the next word, which is a name. The error means want of memory.
+    /// Takes the next word, which is a name. The error means that memory ran out.
     pub fn expect_name(&mut self, alloc: Global) -> Result<Spelled, AllocError>
         requires { (n : Ident) × (left : List Terminal) × (self.old ≡ t_name n ∷ left) }
         ensures read { IfOk result (λ s. BeginsName s self.old self.new) }

@@ -5,7 +5,7 @@ use pg_expr::ColRef;
 /// What a name of a column means, with the alias of its relation before it or without.
 #[derive(Clone, Copy, Debug, PartialEq, Eq)]
 pub enum Found {
-    /// This column.
+    /// One column is visible under the name.
     One(ColRef),
     /// No column is visible under the alias.
     NoTable,

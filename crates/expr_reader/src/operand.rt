@@ -19,8 +19,8 @@ use sql_grammar::{Class, Symbol, fault_at};
 use sql_lex::Token;
 use std::alloc::Global;
 
-/// The column that was found, or its fault: an unknown qualifier is at fault itself (42P01), and else the name, as an unknown
-/// one (42703) or one that several visible columns have (42702).
+/// The column that was found, or its fault: where the qualifier is unknown, at the qualifier (42P01), and else at the name, as
+/// an unknown one (42703) or one that several visible columns have (42702).
 pub fn found_column(found: Found, qualifier: Token, name: Token) -> Result<ColRef, Fault>
     ensures { result ≡ the_column found qualifier name }
 {

@@ -8,7 +8,7 @@ use pg_base::{MOST_COLUMNS, MOST_RELATIONS};
 use pg_expr::ColRef;
 use std::marker::Model;
 
-/// So many columns have a number: those of as many relations as a query may have.
+/// How many columns have a number: those of as many relations as a query may have.
 const MOST_NUMBERED: usize = 320;
 
 /// Where each column of a list stands first, found in one pass and kept in a fixed size. Contracts see the list.
@@ -93,7 +93,7 @@ fn found_place(columns: &[ColRef], x: ColRef) -> Option<usize>
 }
 
 impl<'a> ColumnPlaces<'a> {
-    /// Those of a list.
+    /// The places of the columns of a list.
     pub fn of(columns: &'a [ColRef]) -> ColumnPlaces<'a>
         ensures { result ≡ columns.now }
     {

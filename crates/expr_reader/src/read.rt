@@ -22,7 +22,7 @@ use sql_lex::Tokens;
 use std::alloc::Global;
 
 /// The expression that is next, its names bound to the visible columns, as written: AND, OR and NOT with their parts in order,
-/// and AND and OR of one part that part; parentheses add nothing. The cursor then stands behind it. The condition is that the
+/// AND and OR of one part as that part; parentheses add nothing. The cursor then stands behind it. The condition is that the
 /// words that are left begin with an expression, and that no dot, operator, IS, NOT, IN, BETWEEN, AND or OR follows it.
 ///
 /// IN and BETWEEN are read as what they stand for: `c IN (a, b)` as `(c = a OR c = b)`, with one literal as `c = a`, and `x BETWEEN a

@@ -40,7 +40,7 @@ same-left : (f : Form) (g : GroupedQuery) → over_base (input_base f (over_base
 same-left Sorted g = refl
 same-left Hashed g = refl
 
--- it is left asked for as the form does
+-- a query is left in the order in which the form asks for its input
 pub left : (g asked last : GroupedQuery) (p : GroupPlan) (x : Chosen) → asked ≡ over_base (input_base Sorted g) g → last ≡ over_base (input_base p.form asked) asked → x.plan ≡ p → last ≡ over_base (input_base x.plan.form g) g
 left g asked last p x e is of_plan =
     is ∙ ap (λ h. over_base (input_base p.form h) h) e ∙ same-left p.form g ∙ ap (λ (y : GroupPlan). over_base (input_base y.form g) g) (sym of_plan)

@@ -83,7 +83,7 @@ module _ (c : Contents) (g : GroupQuery) (t : GroupTask) (plain sorted : Option 
         least = λ form p plan. least form (cost c (input_query form g) p).total (dearer form p plan) plan.offered plan.admissible;
       }
 
-  -- the same of totals that are theirs
+  -- the least plan that groups, by the totals of the two inputs
   pub chosen-by : (a b : Option ℕ) → a ≡ total_kept plain → b ≡ total_kept sorted → (r : Option GroupPlan) → IfSome r (choice.IsPlanOver t a b)
       → ((form : Form) (n : ℕ) → choice.IsNoLess (input_of form a b) n → is_offered form t ≡ true → group_total form t n < MOST_COST → choice.HasAtMost r (group_total form t n)) → IsLeastGroupPlan c g t r
   chosen-by a b e f r is least =

@@ -38,7 +38,7 @@ base-for Sorted g = refl
 base-for Hashed g = refl
 
 module _ (c : Contents) (g : GroupedQuery) (o : List OrderItem) where
-  -- the same grouped query with its base in an order
+  -- a grouped query with its base in an order
   abbrev pub asked : GroupedQuery
   asked = over_base (in_order_of g.base o) g
 

@@ -29,7 +29,7 @@ module _ (c : Contents) (g : GroupedQuery) (x : Chosen) (is : IsChosen c g x) wh
   abbrev pub text_of : List ℕ
   text_of = group_plan_text c g x.task x.plan (path x.input).tree
 
-  -- it is the text of a plan that groups
+  -- a text that is printed is that of a plan that groups
   pub explanation : IsGroupExplanation c g x.task x.plan text_of
   explanation = record { task = is.task; least = is.least; printed = ap (group_plan_text c g x.task x.plan) (sym is.input) }
 

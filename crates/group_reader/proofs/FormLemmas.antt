@@ -42,7 +42,7 @@ grouped-at text tokens first p (explained t) k x w place =
     } in
     subst (λ (n : ℕ). IsGroupedAt text tokens n x) (sym here) (record { offered = p; word = k; spelled = at })
 
--- one that does not stands behind the words that tell what is asked of it
+-- a SELECT that does not group stands behind the words that tell what is asked of it
 abbrev pub part_of : OrderedSelect → WindowedSelect
 part_of (ordered_select e q y v s) = windowed_select q y v
 
@@ -99,7 +99,7 @@ pub plain-read : (m : Result Bound Fault) (q : Query) → IsBoundAs m (Ok q) →
 plain-read (Ok b) q read = read
 plain-read (Err f) q read = absurd read
 
--- one that groups
+-- a SELECT that groups
 pub grouped-refused : (m : Result BoundGroups Fault) (e : Refusal) (r : Result Selected Refusal) → IsGroupedAs m (Err e) → IsErrAnd r (λ d. d ≡ e) → IsReadGrouped m r
 grouped-refused m e r read told = conveys-refused BoundGroups BoundGroups GroupedQuery Selected (λ meant g. g ≡ grouped_with g.base.classes meant) IsGroupedOf m m e r read (λ f is. is) told
 

@@ -31,7 +31,7 @@ module _ (f : Part → Option ColRef) where
   pub found-all : (now whole : List ColRef) (xs : List Part) (n : ℕ) → length xs ≤ n → now ++ filter_map f (drop n xs) ≡ whole → now ≡ whole
   found-all now whole xs n le so = sym (append-nil now) ∙ (ap (λ l. now ++ filter_map f l) (sym (drop_of_length-le xs le)) ∙ so)
 
--- the first word at which a part is at fault
+-- the first word at which a part is wrong
 module _ (keys : List ColRef) where
   first-by : (o : Option Token) (ts : List Token) → o ≡ None → first_of (cons_option o ts) ≡ first_of ts
   first-by None ts is = refl
@@ -55,7 +55,7 @@ module _ (keys : List ColRef) where
   pub parts-passed : (ps : List Part) (n : ℕ) (whole : Option Token) → length ps ≤ n → first_of (filter_map (ungrouped_part keys) (drop n ps)) ≡ whole → None ≡ whole
   parts-passed ps n whole le so = ap (λ l. first_of (filter_map (ungrouped_part keys) l)) (sym (drop_of_length-le ps le)) ∙ so
 
-  -- the same of the items of an order, which stand beside their words
+  -- the first word at which an item of an order is wrong: the items stand beside their words
   at-item : (items : List OrderItem) (sorts : List Sorting) (n : ℕ) (i : OrderItem) (s : Sorting) → n < length items → n < length sorts →
       ungrouped_items keys (drop n items) (map last_word (drop n sorts)) ≡ cond (is_grouped keys (get_or items n i).col) (ungrouped_items keys (drop (n + 1) items) (map last_word (drop (n + 1) sorts)))
       (last_word (get_or sorts n s) ∷ ungrouped_items keys (drop (n + 1) items) (map last_word (drop (n + 1) sorts)))

@@ -88,7 +88,7 @@ limited-ok {A} (Ok l) start None F x is = let same : l ≡ x = cc (is) in ap (λ
 limited-ok (Ok l) start (Some k) F x is = absurd (cc (is))
 limited-ok (Err e) start o F x is = absurd (cc (is))
 
--- the same over the relations of FROM
+-- what a grouped SELECT means over the relations of FROM
 module _ (c : Contents) (range : Range) (joined : List Cond) (start : Token) (is : List GroupedItem) (w : Where) (d : Bool) (b : GroupBy) (y : OrderBy) where
   abbrev pub over_these : Joined
   over_these = record { contents = c; range = range; conjuncts = joined }
@@ -137,7 +137,7 @@ within (Ok k) start None l is = record { meant = is; kept = refl }
 within (Ok k) start (Some x) l is = absurd (cc (is))
 within (Err f) start o l is = absurd (cc (is))
 
--- the same with the classes that it has
+-- a grouped query is the one with the classes that it has
 pub own-classes : (g : GroupedQuery) (t : ClassTable) (b : BoundGroups) → g ≡ grouped_with t b → g ≡ grouped_with g.base.classes b
 own-classes g t b is = is ∙ ap (λ (x : ClassTable). grouped_with x b) (sym (ap (λ (x : GroupedQuery). x.base.classes) is))
 
@@ -179,7 +179,7 @@ more-items : (is : List (Mark × GroupedItem)) → length (further_parts listed_
 more-items [] = omega arith
 more-items ((m, i) ∷ is) = omega (arith, more-items is, length-append (words_of_grouped_item i) (words_of_grouped_items is))
 
--- and no more items, with the word FROM
+-- there are no more items than words, with the word FROM
 pub few-items : (i : GroupedItem) (is : List (Mark × GroupedItem)) (f : Terminal) (rest : List Terminal) → length (listed_of i ∷ further_parts listed_of is) ≤ length (words_of_grouped_item i ++ (words_of_grouped_items is ++ f ∷ rest))
 few-items i is f rest = omega (arith, more-items is, length-append (words_of_grouped_item i) (words_of_grouped_items is ++ f ∷ rest), length-append (words_of_grouped_items is) (f ∷ rest))
 

@@ -108,7 +108,7 @@ shown-grouped keys ps none x t i = ⊎_elim
     (λ (h : is_grouped keys x ≡ false). absurd (in-none t (filter_map (ungrouped_part keys) ps) none (filter_map_in (ungrouped_part keys) ps (parts.Shown x t) t i (ap (λ (b : Bool). cond b None (Some t)) h))))
     (cases_Bool (is_grouped keys x))
 
--- and so is one that orders
+-- a column that orders is grouped
 order-grouped : (keys : List ColRef) (items : List OrderItem) (ts : List Token) → ungrouped_items keys items ts ≡ [] → length items ≤ length ts → (i : OrderItem) → IsIn i items → is_grouped keys i.col ≡ true
 order-grouped keys [] ts none le i h = absurd h
 order-grouped keys (j ∷ js) [] none le i h = absurd (omega (arith, le))
@@ -305,7 +305,7 @@ module _ (c : Contents) (range : Range) (are : AreRelations c range) where
         (λ (h : IsIn p b.back). parts-there ls b.back b.second p h x names)
         (in_parts p b.front b.back (subst (IsIn p) b.whole i))
 
-    -- so are the columns that the list shows, and those by which rows are grouped
+    -- the columns that the list shows, and those by which rows are grouped, are of the relations' tables
     shown-there : (ps : List Part) → ((p : Part) → IsIn p ps → (x : ColRef) → column_of_part p ≡ Some x → IsColumnOf c range x) → All (IsColumnOf c range) (shown_columns ps)
     shown-there [] there = All-nil (IsColumnOf c range)
     shown-there (parts.Shown x t ∷ ps) there = All-cons (IsColumnOf c range) x (shown_columns ps) (there (parts.Shown x t) (inl refl) x refl) (shown-there ps (λ p i. there p (inr i)))
@@ -411,7 +411,7 @@ module _ (c : Contents) (range : Range) (are : AreRelations c range) (some : 0 <
     key-stands : (x : ColRef) → IsIn x l.keys → Contains (ordered_columns items) x
     key-stands x i = contains_from_in (ordered_columns items) x (map_in (λ (o : OrderItem). o.col) items (plain_item x) (in_right (plain_item x) l.order (map plain_item l.keys) (map_in plain_item l.keys x i)))
 
-    -- it is well bound in each order by GROUP BY columns that have the directions of their classes
+    -- a base is well bound in each order by GROUP BY columns that have the directions of their classes
     well-in : (order : List OrderItem) → ((i : OrderItem) → IsIn i order → IsIn i.col l.keys) → All (IsDirected c (in_order_of base order)) classes.classes → IsWellBound c (in_order_of base order)
     well-in order by_keys directed_item = record {
       range = record { some = some; few = are.few; tables = are.tables; names = names; distinct = are.distinct };
@@ -474,7 +474,7 @@ module _ (c : Contents) (range : Range) (are : AreRelations c range) (some : 0 <
         } in
         (well, is)
 
--- the same where the lists are meant
+-- a grouped query of lists that are meant is well grouped
 pub grouped-of-lists : (c : Contents) (range : Range) (are : AreRelations c range) → 0 < length range → All (λ r. IsName r.1) range → (ws : List Cond) → All (IsOver c range) ws → past_limit ws ≡ None → (classes : ClassTable) (l : BoundLists)
     (listed : List Listed) (distinct : Bool) (columns : List Column) (sorts : List Sorting) → AreLists (scope_of c range) (type_in c range) listed distinct columns sorts l →
     IsClassTable (record { conjuncts = conjuncts_in ws; order = l.order ++ map plain_item l.keys; type_of = type_in c range }) classes → length listed < 2 ^ 32 → length l.keys < 2 ^ 32 →

@@ -46,7 +46,7 @@ shown_at word x = parts.Shown x word
 abbrev pub columns_said : Scope → Shown → Token → Result (List Part) Fault
 columns_said scope item word = next (item_columns scope item) (λ xs. Ok (map (shown_at word) xs))
 
--- one part
+-- the columns of one part alone
 abbrev pub part_alone : Part → Result (List Part) Fault
 part_alone p = Ok (p ∷ [])
 

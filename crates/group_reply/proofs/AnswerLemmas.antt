@@ -169,7 +169,7 @@ module _ (w : World) (g : GroupedQuery) (world : IsWorld w) (bound : IsWellGroup
       record { task = x.task; chosen = x.plan; explanation = record { task = chosen.task; least = chosen.least; printed = refl }; fetched = refl; looked = refl },
     )
 
--- and what that tells of out's faults
+-- a call that stopped
 abbrev stopped : Stop → Result (Unit {0}) Stop
 stopped s = Err s
 

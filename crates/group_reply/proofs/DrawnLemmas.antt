@@ -32,7 +32,7 @@ module _ (w : World) (q : Query) (asked : GroupedQuery) (t : GroupTask) (chosen 
   few : l' ≤ l + reply.looked
   few = omega (arith, looked, allowed, ap (λ (ts : List Tuple). length ts) left)
 
-  -- it stopped before anything was printed
+  -- drawing stopped before anything was printed
   pub begun-drawing : a ≡ b → f' ≤ f + r.owed → HasBegun (λ s. s ≡ reply) (traces a f l) (traces b f' l')
   begun-drawing same fetched =
       let P : Option (List ℕ) → Type 0 = λ h. AppendsPrefix a h reply.bytes in

@@ -35,7 +35,7 @@ module _ (ls : List (List Value)) (i : ℕ) (d : List Value) (lt : i < length ls
 parts : (ls : List (List Value)) (i : ℕ) → text_of (take i ls) ++ text_of (drop i ls) ≡ text_of ls
 parts ls i = sym (flat_map-append row_line (take i ls) (drop i ls)) ∙ ap text_of (take-append-drop i ls)
 
--- it stopped on the way of a line
+-- printing stopped on the way of a line
 pub put-cut : (ls : List (List Value)) (i : ℕ) (d : List Value) → i < length ls → (a b c : Option (List ℕ)) (p q line : List ℕ) → line ≡ row_line (get_or ls i d)
     → HasPut a b p q (text_of (take i ls)) → AppendsPrefix b c (q ++ line) → AppendsPrefix a c (p ++ text_of ls)
 put-cut ls i d lt a b c p q line is put some =

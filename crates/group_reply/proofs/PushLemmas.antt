@@ -57,7 +57,7 @@ module _ (seen : Tuple → Seen) where
           last-alone mid.shape (map seen is.drawn) (seen t) (map seen later.left) mid.groups is.are
           (subst P seen-parts (together (sym (ap (λ (g : Grouping). g.form) is.kept) ∙ sorted)))
 
-      -- it is one of those that are looked at
+      -- the tuple is one of those that are looked at
       pub looked-more : l' + now.allowed + MOST_READS ≤ l + (first.allowed + MOST_READS * length first.left)
       looked-more = omega (arith, is.looked, long, ap (λ (ts : List Tuple). length ts) left)
 

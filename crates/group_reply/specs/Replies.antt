@@ -37,7 +37,7 @@ module _ (w : World) (g : GroupedQuery) where
   abbrev pub input_tuples : Form → Plan → List Tuple
   input_tuples form p = run w (input_query form (group_query g)) p (no_rows g.base)
 
-  -- one line for each group of these, in ORDER BY
+  -- one line for each group of the tuples of a plan's input, in ORDER BY
   abbrev pub plan_lines : Form → Plan → List (List Value)
   plan_lines form p = lines (shape_of g) (map seen_at (input_tuples form p))
 

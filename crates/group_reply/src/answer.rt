@@ -67,8 +67,8 @@ pub fn answer_groups<C: Counters, K: Sink>(
     Ok(())
 }
 
-/// That a grouped SELECT has an answer, and its EXPLAIN one. Nothing is read or printed. `NoPlan` comes only where each plan
-/// that groups costs 10^18 or more; the other error is out of memory.
+/// Whether a grouped SELECT has an answer, and its EXPLAIN one. Nothing is read or printed. `NoPlan` comes only where each
+/// plan that groups costs 10^18 or more; the other error is out of memory.
 pub fn plan_groups<C: Counters>(
     alloc: Global,
     cat: &Catalog,

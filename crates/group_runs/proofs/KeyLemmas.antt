@@ -21,7 +21,7 @@ abbrev pub once : List Keys → List Keys
 once [] = []
 once (k ∷ ks) = k ∷ filter (other_than k) (once ks)
 
--- those of the firsts are these
+-- the keys of the first of each group are the keys of all, each once
 pub keys-of-firsts : (ss : List Seen) → map (λ (s : Seen). s.keys) (firsts ss) ≡ once (map (λ (s : Seen). s.keys) ss)
 keys-of-firsts [] = refl
 keys-of-firsts (s ∷ ss) = ap (λ l. s.keys ∷ l) (map-filter (λ (t : Seen). t.keys) (other_than s.keys) (firsts ss) ∙ ap (filter (other_than s.keys)) (keys-of-firsts ss))

@@ -65,7 +65,7 @@ merge n b p q same = elim (cases_lt n b) [
   ]
 ]
 
--- which numbers are among them
+-- which numbers are among the rows that pass a test
 member-all : (b : ℕ) (test : ℕ → Bool) (n : ℕ) → is_member (rows_passing b test) n ≡ (nat_lt n b && test n)
 member-all zero test n = let none : nat_lt n 0 ≡ false = grind (arith, nat_tests) in ap (λ (x : Bool). x && test n) (sym none)
 member-all (suc b) test n =
@@ -77,7 +77,7 @@ member-all (suc b) test n =
 pub member-those : (b : ℕ) (test : ℕ → Bool) (n : ℕ) → n < b → is_member (rows_passing b test) n ≡ test n
 member-those b test n lt = let below : nat_lt n b ≡ true = grind (arith, nat_tests) in member-all b test n ∙ ap (λ (x : Bool). x && test n) below
 
--- those from a number on
+-- what is not below a bound, of a number that may be there
 last-out : (t b : ℕ) (x : Bool) → b < t → not_below t (cond x (b ∷ []) []) ≡ []
 last-out t b true lt = let below : nat_lt b t ≡ true = grind (arith, nat_tests) in ap (λ (x : Bool). cond (not x) (b ∷ []) []) below
 last-out t b false lt = refl
@@ -116,7 +116,7 @@ module _ (test : ℕ → Bool) where
   those-none (suc b) none =
       those-suc b test ∙ ap₂ (λ (l : List ℕ) (x : Bool). l ++ cond x (b ∷ []) []) (those-none b (λ n lt. none n (omega arith))) (none b (omega arith))
 
--- they stand in order and below the bound
+-- the rows that pass a test stand in order and below the bound
 last-within : (xs : List ℕ) (b : ℕ) (x : Bool) → All (λ n. n < b) xs → All (λ n. n < suc b) (xs ++ cond x (b ∷ []) [])
 last-within xs b true all = All-push (λ n. n < suc b) xs b (λ k d lt. omega (arith, all k d lt)) (omega arith)
 last-within xs b false all = subst (λ (l : List ℕ). All (λ n. n < suc b) l) (sym (append-nil xs)) (λ k d lt. omega (arith, all k d lt))

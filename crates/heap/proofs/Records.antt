@@ -26,7 +26,7 @@ records-first cfg n s s2 xs ys (r ∷ rs) h =
     ∙ ap (λ (q : List (List ℕ)). q ∷ records_from cfg (length rs + n) h.0.1 h.0.2) (sym h.2)
     ∙ ap (λ (l : List (List (List ℕ))). r ∷ l) (records-first cfg n h.0.1 s2 h.0.2 ys rs h.3)
 
--- and where no record follows, they are all
+-- where no record follows, there are none from there on
 pub none-after : (cfg : Config) (n : ℕ) (s : State) (ys : List ℕ) → next_record cfg s [] [] ys ≡ None → records_from cfg n s ys ≡ []
 unfolding records_from
 none-after cfg zero s ys h = refl

@@ -70,7 +70,7 @@ unfoldable pub rows_from : List Column → ℕ → ℕ → List (List (List ℕ)
 rows_from columns room rec [] = Ok []
 rows_from columns room rec (r ∷ rs) = joined (row columns room rec r) (rows_from columns room (rec + 1) rs)
 
--- a heap with these rows behind its own
+-- a heap with rows behind its own
 abbrev pub with_rows : Stored → Result (List Values) CopyFault → Result Stored CopyFault
 with_rows h (Ok rows) = Ok (record h { rows = h.rows ++ rows })
 with_rows h (Err e) = Err e
@@ -87,10 +87,10 @@ BeginsWith before after = take (length before) after ≡ before
 abbrev pub appended : Values → Values → Values
 appended before after = drop (length before) after
 
--- so many rows whose values were put at the end of a list, one row after another
+-- a number of rows whose values were put at the end of a list, one row after another
 abbrev pub appended_rows : List Column → ℕ → Values → Values → List Values
 appended_rows columns n before after = runs_of (length columns) n (appended before after)
 
--- a fault, but for want of memory, is that of a reading
+-- a fault, unless memory ran out, is that of a reading
 abbrev pub IsFaultOf : {A : Type 0} → Result A CopyFault → CopyFault → Type 0
 IsFaultOf reading e = e ≢ Memory → reading ≡ Err e

@@ -33,7 +33,7 @@ pub record IsLawfulData (h : Stored) : Type 0 where
   pub few : length h.rows ≤ MOST_ROWS
   pub each : All (IsRowOf h.columns) h.rows
 
--- these columns, and so many rows of one value for each, one row after another in a flat list
+-- some columns, and a number of rows of one value for each, one row after another in a flat list
 abbrev pub laid_out : List Column → ℕ → Values → Stored
 laid_out columns count values = record { columns = columns; rows = runs_of (length columns) count values }
 

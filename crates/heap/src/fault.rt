@@ -12,48 +12,48 @@ pub enum CopyFault {
     /// A record has another number of fields than the table has columns.
     #[error("field count, record {rec}")]
     Arity {
-        /// The record at fault.
+        /// The record in error.
         rec: u32,
     },
     /// A field is a whole number that its column's type does not have.
     #[error("out of range, record {rec}")]
     Range {
-        /// The record at fault.
+        /// The record in error.
         rec: u32,
-        /// The column at fault.
+        /// The column in error.
         col: ColNo,
     },
     /// A field spells no value of its column's type.
     #[error("invalid input, record {rec}")]
     Invalid {
-        /// The record at fault.
+        /// The record in error.
         rec: u32,
-        /// The column at fault.
+        /// The column in error.
         col: ColNo,
     },
     /// A field is NULL and its column takes none.
     #[error("null, record {rec}")]
     IsNull {
-        /// The record at fault.
+        /// The record in error.
         rec: u32,
-        /// The column at fault.
+        /// The column in error.
         col: ColNo,
     },
     /// A text has more than [`MOST_TEXT_BYTES`](pg_base::MOST_TEXT_BYTES) bytes.
     #[error("text too long, record {rec}")]
     TooLong {
-        /// The record at fault.
+        /// The record in error.
         rec: u32,
-        /// The column at fault.
+        /// The column in error.
         col: ColNo,
     },
     /// The record would be a row past the first [`MOST_ROWS`](pg_base::MOST_ROWS) of the table.
     #[error("too many rows, record {rec}")]
     TooMany {
-        /// The record at fault.
+        /// The record in error.
         rec: u32,
     },
-    /// Want of memory.
+    /// Out of memory.
     #[error("out of memory")]
     Memory,
 }

@@ -40,7 +40,7 @@ impl<C: Counters> Heaps<C> {
         }
     }
 
-    /// Puts the heap of a new table at the end. The only error is want of memory, and then all is as before.
+    /// Puts the heap of a new table at the end. The only error is that memory ran out, and then all is as before.
     pub fn add(&mut self, h: Heap<C>) -> Result<(), Memory>
         ensures added { OnOk result (self.new ≡ self.old ++ h ∷ []) }
         ensures refused { OnErr result (self.new ≡ self.old) }

@@ -2,7 +2,7 @@
 
 ghost use Rattle.std.specs.Prelude.{◌≡◌, ◌≤◌, ◌+◌, drop, length, take};
 
-/// So many items from a place on.
+/// A number of items from a place on.
 pub(crate) fn part<T>(items: &[T], start: usize, width: usize) -> &[T]
     requires { start + width ≤ length items.now }
     ensures { result.now ≡ take width (drop start items.now) }

@@ -90,7 +90,7 @@ impl<C: Counters> Heap<C> {
     }
 
     /// Appends a row for each record of the block and says how many, or refuses with the first fault: that of the
-    /// first record at fault, by `TooMany`, `Arity`, then its fields from the left. Then the heap is as before. A
+    /// first record in error, by `TooMany`, `Arity`, then its fields from the left. Then the heap is as before. A
     /// column that the fault names is one of the heap's.
     pub fn load(&mut self, block: &[u8]) -> Result<u32, CopyFault>
         ensures rows { IfOk result (λ n. loaded self.old (records_of block.now) ≡ Ok self.new) }

@@ -32,7 +32,7 @@ impl Model for Tids {
 }
 
 impl Tids {
-    /// The set without members, for row numbers below `len`. The only error is want of memory.
+    /// The set without members, for row numbers below `len`. The only error is that memory ran out.
     pub fn empty(alloc: Global, len: u32) -> Result<Tids, Memory>
         ensures { IfOk result (λ s. s ≡ record { bound = len; members = [] }) }
     {

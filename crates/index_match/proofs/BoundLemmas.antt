@@ -160,7 +160,7 @@ bounds_are d r ss j =
     let bs = bounding d.method r d.keys (numbered_from 0 ss) in
     number_filter (has_number bs) cs j ∙ and_among (has_number cs j) (has_number bs j) (bounds_among_them d.method r d.keys cs j) ∙ bounding_at d.method r d.keys ss j
 
--- and it is below the number of places
+-- the number of a bound is below the number of places
 pub bounds_below : (d : Index) (r : ℕ) (ss : List (Option Cond)) (j : ℕ) → nat_lt j (length ss) && bound_at d.method r d.keys ss j ≡ bound_at d.method r d.keys ss j
 bounds_below d r ss j = and_among (nat_lt j (length ss)) (bound_at d.method r d.keys ss j) (λ h.
     by (nat_lt j (length ss)) (passes (λ e. true) (slice_index_or ss j None))

@@ -28,7 +28,7 @@ clauses_by_number test n (k ∷ ks) = by (clauses_by_number test (n + 1) ks) (te
     by later true = ap (λ (es : List Cond). k.cond ∷ es) later
     by later false = later
 
--- those that pass a test have its numbers
+-- the numbers of the clauses that pass a test
 those_numbers : (t : ClassTable) (test : Clause → Bool) (n : ℕ) → has_number (those t test) n ≡ nat_lt n (length t.clauses) && test (clause_at t.clauses n)
 those_numbers t test n =
     let chosen = λ (j : ℕ). nat_lt j (length t.clauses) && test (clause_at t.clauses j) in

@@ -25,7 +25,8 @@ is_fixing _ = false
 abbrev pub on_key : Method → ℕ → IndexKey → List Numbered → List Numbered
 on_key m r k cs = filter (λ (c : Numbered). has_key_form m r k c.cond) cs
 
--- from the left over the key columns: the first fixing condition of a column, and the next column follows; else all conditions of the column, and none follows
+-- the bounds, from the left over the key columns: the first condition that fixes a column, and the next column follows; else
+-- all conditions of the column, and none follows
 abbrev pub bounding : Method → ℕ → List IndexKey → List Numbered → List Numbered
 bounding m r [] cs = []
 bounding m r (k ∷ ks) cs =
@@ -34,7 +35,7 @@ bounding m r (k ∷ ks) cs =
       | Some c ↦ c ∷ bounding m r ks cs
     ]
 
--- those conditions of a list that are bounds, in the list's order
+-- the conditions of a list that are bounds, in the list's order
 abbrev pub bounds_among : Index → ℕ → List Numbered → List Numbered
 bounds_among d r cs = filter (is_among (bounding d.method r d.keys cs)) cs
 

@@ -58,7 +58,7 @@ has_key_form m r k (is_null x) = not (is_hash m) && is_key r k x
 has_key_form m r k (is_not_null x) = not (is_hash m) && is_key r k x
 has_key_form m r k _ = false
 
--- on some key column of the index
+-- a condition is on some key column of the index
 abbrev pub is_condition : Index → ℕ → Cond → Bool
 is_condition d r e = list_any (λ k. has_key_form d.method r k e) d.keys
 
@@ -71,7 +71,7 @@ abbrev pub allowed : Method → List Numbered → List Numbered
 allowed Btree cs = cs
 allowed Hash cs = take 1 cs
 
--- those of a list that an index has as conditions
+-- the clauses of a list that an index has as conditions
 abbrev pub conditions_among : Index → ℕ → List Numbered → List Numbered
 conditions_among d r cs = allowed d.method (filter (λ (c : Numbered). is_condition d r c.cond) cs)
 

@@ -22,7 +22,7 @@ numbered_from_0 es = map numbered (enumerate_from 0 es)
 abbrev pub those : ClassTable → (Clause → Bool) → List Numbered
 those t test = map (λ (p : ℕ × Clause). numbered (p.0, p.1.cond)) (filter (λ (p : ℕ × Clause). test p.1) (enumerate_from 0 t.clauses))
 
--- a number is one of the list's
+-- a number is that of a condition of a list
 abbrev pub has_number : List Numbered → ℕ → Bool
 has_number cs n = list_any (λ (c : Numbered). nat_eq n c.number) cs
 
@@ -30,11 +30,11 @@ has_number cs n = list_any (λ (c : Numbered). nat_eq n c.number) cs
 abbrev pub is_among : List Numbered → Numbered → Bool
 is_among chosen c = has_number chosen c.number
 
--- those of a list that are not chosen
+-- the conditions of a list that are not among the chosen
 abbrev pub others : List Numbered → List Numbered → List Numbered
 others chosen cs = filter (λ c. not (is_among chosen c)) cs
 
--- the conditions alone
+-- numbered conditions without their numbers
 abbrev pub conditions_of : List Numbered → List Cond
 conditions_of cs = map (λ (c : Numbered). c.cond) cs
 

@@ -67,7 +67,7 @@ abbrev pub passes : (Cond → Bool) → Option Cond → Bool
 passes test None = false
 passes test (Some e) = test e
 
--- it has a condition on a key column, and one that fixes it
+-- the condition at a place is on a key column
 abbrev pub is_on_key : Method → ℕ → IndexKey → Option Cond → Bool
 is_on_key m r k = passes (has_key_form m r k)
 
@@ -75,7 +75,7 @@ is_on_key m r k = passes (has_key_form m r k)
 abbrev pub is_key_slot : Method → RelNo → IndexKey → Conditions → ℕ → Bool
 is_key_slot m r k list j = nat_lt j (length (slots_of list)) && is_on_key m r.0 k (slot_at (slots_of list) j)
 
--- the condition at a place leaves the key column one value
+-- the condition at a place is on a key column and leaves it one value
 abbrev pub is_fixing_on : Method → ℕ → IndexKey → Option Cond → Bool
 is_fixing_on m r k = passes (λ e. has_key_form m r k e && is_fixing e)
 
@@ -117,7 +117,7 @@ bound_at m r (k ∷ ks) slots j =
       | Some n ↦ nat_eq j n || bound_at m r ks slots j
     ]
 
--- so by an index
+-- a number is that of a bound of an index, by the places of the conditions
 abbrev pub is_bound : IndexDef → ℕ → List (Option Cond) → ℕ → Bool
 is_bound d r slots j = bound_at d.method r d.keys.items slots j
 

@@ -19,9 +19,9 @@ use pg_base::{IndexNo, RelNo, RelSet};
 /// The conditions of an index, by clause numbers.
 #[derive(Drop)]
 pub struct Match {
-    /// Those that bound one contiguous part of the index.
+    /// The conditions that bound one contiguous part of the index.
     pub bounds: ClauseSet,
-    /// The others, which are tests of its entries.
+    /// The other conditions, which are tests of the index's entries.
     pub tests: ClauseSet,
 }
 
@@ -106,7 +106,7 @@ fn bounding(def: &IndexDef, r: RelNo, classes: &Classes, set: &ClauseSet) -> Cla
 }
 
 /// The conditions of index `i` among the clauses that are tested at relation `r` where the rows of `p` are given, of which
-/// this is the set: what `conditions` finds, for callers that ask of several indexes. It takes no memory.
+/// `local` is the set: what `conditions` finds, for callers that ask of several indexes. It takes no memory.
 pub fn conditions_among(
     cat: &Catalog,
     classes: &Classes,

@@ -47,7 +47,7 @@ held-added t n s (x ∷ xs) = by (s n) (nat_eq x.index.table.0 t) refl (held-add
     by false true e h = omega (arith, h)
     by false false e h = h
 
--- those before one on the table are fewer
+-- the indexes on a table that stand before one of them are fewer
 held-before : (t : ℕ) (xs : List NamedIndex) (j : ℕ) (d : NamedIndex) → j < length xs → (get_or xs j d).index.table.0 ≡ t → held t (take j xs) < held t xs
 held-before t [] j d lt e = absurd (omega (arith, lt))
 held-before t (x ∷ xs) zero d lt e = let here = ap (λ (b : Bool). cond b (suc (held t xs)) (held t xs)) (eq-eqb x.index.table.0 t e) in omega (arith, here)
@@ -125,7 +125,7 @@ module _ (c : Contents) (xs : List NamedIndex) (s : ℕ → Bool) where
     pub with-next : s j ≡ true → with_index (so_far j) x.name x.index ≡ so_far (j + 1)
     with-next e = ap (over c.tables) (append-three c.indexes (added_from 0 s (take j xs)) (x ∷ []) ∙ ap (λ (ys : List NamedIndex). c.indexes ++ ys) (sym (added-one xs s j x lt is true e)))
 
-    -- and where it has not
+    -- the next candidate, where the set has it not
     pub without-next : s j ≡ false → so_far j ≡ so_far (j + 1)
     without-next e = ap (λ (ys : List NamedIndex). over c.tables (c.indexes ++ ys)) (sym (append-none (added_from 0 s (take j xs))) ∙ sym (added-one xs s j x lt is false e))
 
@@ -163,6 +163,6 @@ module _ (c : Contents) (xs : List NamedIndex) (s : ℕ → Bool) where
           let most = h.room t in
           omega (arith, now, all, few, fewer, most)
 
-      -- it is acceptable
+      -- the next candidate is an acceptable index
       pub acceptable : IsAcceptableIndex (so_far j) x.name x.index
       acceptable = record { free = unused; distinct = candidate.distinct; room = room; form = candidate.form }

@@ -20,7 +20,7 @@ module _ (c : Contents) (xs : List NamedIndex) (qs : List Query) (q s : ℕ) (m 
   pub query-bound : All (IsWellBound c) qs → IsWellBound m (get_or qs q x)
   query-bound h = subst (λ (d : Contents). IsWellBound d (get_or qs q x)) (sym made) (bound-over c.tables c.indexes (c.indexes ++ added_from 0 (has s) xs) (get_or qs q x) (h q x lt))
 
-  -- and what it costs there with each set between two is what it costs with these candidates
+  -- what a query costs there with each set between two is what it costs with these candidates
   pub quote-told : {E : Type 0} (r : Result Quote E) → IfOk r (IsQuoteOver m xs (get_or qs q x) s) → IfOk r (IsQuote (prices_of c xs qs) q s)
   quote-told r = IfOk-weaker r (IsQuoteOver m xs (get_or qs q x) s) (IsQuote (prices_of c xs qs) q s) (λ o h t least most. record {
     query = get_or qs q x;

@@ -17,8 +17,8 @@ abbrev pub HasAllRead : Contents → List NamedIndex → ℕ → Plan → ℕ �
 HasAllRead c candidates set p place used =
     (k : ℕ) (i : IndexNo) → k < place → has set k ≡ true → HasIndexName c (slice_index_or candidates k no_index).name i → reads p i ≡ true → has used k ≡ true
 
--- where a catalogue is another one with a set of candidates, a query has this cost with each set between those that are used
--- and this one
+-- where a catalogue is another one with a set of candidates, a query has the quoted cost with each set between those that
+-- are used and that set
 abbrev pub IsQuoteOver : Contents → List NamedIndex → Query → ℕ → Quote → Type 0
 IsQuoteOver m candidates q set x =
     (c : Contents) → m ≡ with_added c candidates (has set) → (t : ℕ) → IsPart x.used t → IsPart t set → IsLeastPrice (with_added c candidates (has t)) q x.cost

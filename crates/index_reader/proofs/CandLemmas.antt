@@ -40,7 +40,7 @@ behind-two (index_on k i n o t u p x xs m c w e) text tokens is = record {
       ap (λ (s : Token). meaning_of_cand cat s (cand_on n o t u p x xs m c w)) (sym first);
 }
 
--- it stands behind its first two tokens, up to the last one
+-- a candidate stands behind the first two tokens of CREATE INDEX, up to the last one
 pub cand-behind : (y : CreateIndex) (text : List ℕ) (tokens : List Token) (end : ℕ) → IsSpelled (create_index y) text tokens → end ≡ length tokens - 1 → IsCandAt text tokens 2 end (cand_of y)
 cand-behind y text tokens end s at =
     let b = behind-two y text tokens s.words in
@@ -58,14 +58,14 @@ index-told cat text tokens y end r s some at told =
     let (start, later, whole) = some-token tokens some in
     subst (λ (m : Result IndexMeant Fault). Reads index_meant m [] r []) ((behind-two y text tokens s.words).means cat start later whole) (told (cand_of y) start later whole (cand-behind y text tokens end s at))
 
--- one whose end is found stands up to it
+-- a candidate whose end is found stands up to it
 pub cand-that-ends : (text : List ℕ) (tokens : List Token) (first end : ℕ) → AreWithinLimits (terminals text tokens) → EndsAt IsCand text tokens first end → HaveCand text tokens first end
 cand-that-ends text tokens first end within at =
     let (x, levels, words) = at.whole in
     let slice = slice-is tokens at.before at.after at.token first end at.split at.place in
     (x, record { within = slice.1; words = words ∙ ap (terminals text) (sym slice.0); limits = within })
 
--- it has a word at least
+-- a candidate has a word at least
 pub some-words : (x : Cand) → 0 < length (words_of_cand x)
 some-words (cand_on n o t u p x xs m c w) = omega arith
 

@@ -42,7 +42,7 @@ use Rattle.index_reader.proofs.CandLemmas.{some-words}
 
 -- One candidate.
 
--- it stands between two tokens
+-- a candidate stands between two tokens
 pub cand-at : (text : List ℕ) (tokens : List Token) (first end : ℕ) (x : Cand) (next : Terminal) (rest : List Terminal) → Stands text tokens first (words_of_cand x) next rest → end ≡ first + length (words_of_cand x) →
     IsCandAt text tokens first end x
 cand-at text tokens first end x next rest s at = record {
@@ -84,20 +84,20 @@ module _ (c : Contents) (start : Token) (tokens : List Token) (earlier : List Na
       let is : nat_lt (length earlier) MOST_CANDIDATES ≡ true = grind (arith, nat_tests, lt) in
       ap (λ b. cond b (meaning_of_cand c start x) (Err (fault_at (S15 Candidates) (name_token x)))) is
 
-  -- one that has a fault of its own
+  -- a candidate that has a fault of its own
   pub read-wrong : (f : Fault) → length earlier < MOST_CANDIDATES → meaning_of_cand c start x ≡ Err f → CandidateMeans c start tokens earlier x (Err f)
   read-wrong f lt wrong = inl (f, sym (below lt ∙ wrong), refl)
 
-  -- one that may not be made
+  -- a candidate that may not be made
   pub made-wrong : (read : IndexMeant) (f : Fault) → length earlier < MOST_CANDIDATES → meaning_of_cand c start x ≡ Ok read → IsNotAllowed (with_candidates c earlier) tokens read f → CandidateMeans c start tokens earlier x (Err f)
   made-wrong read f lt is wrong = inr (read, sym (below lt ∙ is), wrong)
 
-  -- one that may
+  -- a candidate that may be made
   pub made : (read : IndexMeant) → length earlier < MOST_CANDIDATES → meaning_of_cand c start x ≡ Ok read → IsAllowed (with_candidates c earlier) read →
       CandidateMeans c start tokens earlier x (Ok (record { name = read.name; index = read.index }))
   made read lt is allowed = inr (read, sym (below lt ∙ is), (allowed, refl))
 
--- it may be made, with earlier ones
+-- an index may be made as a candidate with earlier ones
 pub may-be-made : (c : Contents) (earlier : List NamedIndex) (read : IndexMeant) → IsName read.name → Fits c read.index → IsAllowed (with_candidates c earlier) read →
     IsCandidateIndex (with_candidates c earlier) (record { name = read.name; index = read.index })
 may-be-made c earlier read name fits allowed = record {
@@ -108,7 +108,7 @@ may-be-made c earlier read name fits allowed = record {
   form = allowed.form;
 }
 
--- and apart from them
+-- an index that may be made with earlier candidates may be made without them
 pub made-alone : (c : Contents) (earlier : List NamedIndex) (x : NamedIndex) → IsCandidateIndex (with_candidates c earlier) x → IsCandidateIndex c x
 made-alone c earlier x may = record {
   name = may.name;
@@ -146,7 +146,7 @@ first-stands text tokens first w at =
     let low = at.levels in
     (next, left, record { are = at.are ∙ ap (λ l. words_of_cand w.first ++ l) is; limits = at.limits }, ends, omega (arith, low))
 
--- these were read and named, and the others are left at a token: what they mean behind these is what all mean
+-- some candidates were read and named, and the others are left at a token: what these mean behind them is what all mean
 pub record Going (c : Contents) (start : Token) (text : List ℕ) (tokens : List Token) (found : List NamedIndex) (names : List Token) (at : ℕ) (w : Row) : Type 0 where
   pub left : Row
   pub there : RowAt text tokens at left
@@ -190,7 +190,7 @@ module _ (c : Contents) (start : Token) (text : List ℕ) (tokens : List Token) 
   }
 
   module _ (at : ℕ) (w : Row) (g : Going c start text tokens found names at w) where
-    -- the next one is at fault
+    -- the next candidate is wrong
     pub goes-wrong : (f : Fault) → CandidateMeans c start tokens found g.left.first (Err f) → CandidatesMean c start tokens (candidates_of w.first w.more) (Err f)
     goes-wrong f wrong = g.reads (Err f) (inl (f, wrong, refl))
 
@@ -198,7 +198,7 @@ module _ (c : Contents) (start : Token) (text : List ℕ) (tokens : List Token) 
     behind-one : (end : ℕ) → end ≡ at + length (words_of_cand g.left.first) → terminals text (drop end tokens) ≡ words_of_cands g.left.more ++ t_mark Close g.left.close ∷ g.left.rest
     behind-one end is = ap (λ n. terminals text (drop n tokens)) is ∙ behind text tokens at (words_of_cand g.left.first) (words_of_cands g.left.more ++ t_mark Close g.left.close ∷ g.left.rest) g.there.are
 
-    -- it is the last one
+    -- the candidate is the last one
     pub goes-out : (y : NamedIndex) (t : Token) (end : ℕ) → CandidateMeans c start tokens found g.left.first (Ok y) → t ≡ name_token g.left.first → end ≡ at + length (words_of_cand g.left.first) →
         BeginsNot (t_mark Comma) (terminals text (drop end tokens)) →
         CandidatesMean c start tokens (candidates_of w.first w.more) (Ok (found ++ y ∷ [])) × (names ++ t ∷ [] ≡ map name_token (candidates_of w.first w.more)) × (terminals text (drop end tokens) ≡ t_mark Close w.close ∷ w.rest)

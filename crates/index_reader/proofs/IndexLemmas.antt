@@ -58,7 +58,7 @@ opened n o t u p x xs m c w first second third last s q is begins again follows 
     let two = named t (from (words_of_where w)) q third last (again ∙ ap (drop 1) one.1) follows in
     (one.0, two.0, two.1 ∙ ap from (sym (append-nil (words_of_where w))))
 
--- the table that is told
+-- the table that is given
 pub table-told : (cat : Contents) (t : Ident) (s : Spelled) (r : Result TableNo Fault) → s ≡ spelled t → r ≡ known S2 s.token (table_named cat s.bytes) → table_of_name cat t ≡ r
 table-told cat t s r is told = ap (λ (x : Spelled). known S2 x.token (table_named cat x.bytes)) (sym is) ∙ sym told
 
@@ -177,7 +177,7 @@ pub fault-by : (m : Result IndexMeant Fault) (f : Fault) → Reads {T = ReadInde
 fault-by (Ok a) f told = absurd told
 fault-by (Err g) f told = ap Err (sym told)
 
--- one that is refused after its syntax
+-- an index that is refused after its syntax
 pub refused-as : (cat : Contents) (text : List ℕ) (tokens : List Token) (r : Result ReadIndex Refusal) (given : Indexing text tokens) → Reads index_meant (meaning cat given.tree) [] r [] → IfErr r (IsCreateRefusal cat text tokens)
 refused-as cat text tokens (Ok v) given told = tt
 refused-as cat text tokens (Err refusal.Memory) given told = (given.tree, given.spelled)

@@ -27,7 +27,7 @@ use Rattle.expr_reader.specs.Sorts.{is_descending, has_nulls_first, ends_directi
 use Rattle.index_reader.specs.Reads.{begins_class, ends_key}
 use Rattle.expr_reader.proofs.StepLemmas.{step, stop}
 
--- want of memory
+-- memory ran out
 pub reads-memory : (T A : Type 0) (seen : T → A) (m : Result A Fault) (r : Result T Refusal) (rest left : List Terminal) → IsErrAnd r (λ e. e ≡ refusal.Memory) → Reads seen m rest r left
 reads-memory T A seen m (Ok x) rest left told = absurd told
 reads-memory T A seen m (Err refusal.Memory) rest left told = read-memory T A seen m rest left
@@ -52,12 +52,12 @@ pub nulls-end : (rest : List Terminal) → ends_key rest ≡ true → ends_nulls
 nulls-end (t_mark _ _ ∷ x) h = refl
 nulls-end _ h = absurd (cc)
 
--- the column that is told
+-- the column that is given
 pub column-told : (cat : Contents) (t : TableNo) (n : Ident) (s : Spelled) (r : Result ColNo Fault) → s ≡ spelled n → r ≡ known S3 s.token (column_named cat t s.bytes) → column_of_name cat t n ≡ r
 column-told cat t n s r is told = ap (λ (x : Spelled). known S3 x.token (column_named cat t x.bytes)) (sym is) ∙ sym told
 
 module _ (cat : Contents) (t : TableNo) (m : Method) (n : Ident) (c : ClassTree) (d : Direction) (z : NullsEnd) (col : ColNo) (s : SqlType) (found : column_of_name cat t n ≡ Ok col) (typed : s ≡ type_at (table_at cat t).columns col) where
-  -- its class is at fault
+  -- a key's operator class is wrong
   pub class-wrong : (f : Fault) → class_bound m s c ≡ Err f → key_bound cat t m (index_key n c d z) ≡ Err f
   class-wrong f wrong = step (column_of_name cat t n) _ col found ∙ stop (class_bound m (type_at (table_at cat t).columns col) c) _ f (subst (λ u. class_bound m u c ≡ Err f) typed wrong)
 

@@ -63,7 +63,7 @@ module _ (c : Contents) (xs : List NamedIndex) (q : List ℕ) where
   none-index : (r : Option IndexNo) → MatchOption r (IsFreeIndex c q) (HasIndexName c q) → is_some r ≡ false → Contains (index_names c) q → ⊥
   none-index r m none h = let some = some-index c q r m h in cc (some, none)
 
-  -- it is of neither: then it is whether a candidate has it
+  -- the name is that of no table and no index: whether a candidate has it
   pub taken-by-candidate : (b : Bool) (t : Option TableNo) (i : Option IndexNo) → MatchOption t (IsFree c q) (HasTableName c q) → MatchOption i (IsFreeIndex c q) (HasIndexName c q) →
       is_some t ≡ false → is_some i ≡ false → b ≡ list_any (λ x. bytes_eq q x.name) xs → IsTrue b ↔ Contains (all_names (with_candidates c xs)) q
   taken-by-candidate b t i tm im no-table no-index is = (

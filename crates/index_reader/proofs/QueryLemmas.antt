@@ -71,7 +71,7 @@ pub open-at : (text : List ℕ) (tokens : List Token) (first : ℕ) (x : Advised
 open-at text tokens first x rest d is lt =
     open-first x rest (get_or tokens first d) (drop (first + 1) tokens) (tokens-are (words_of_advised x ++ rest) text (drop first tokens) (sym is) ∙ drop_more tokens first d lt)
 
--- what is bound is a query, or is at fault
+-- what is bound is a query, or has a fault
 bound-query : (m : Result Bound Fault) (q : Query) → IsBoundAs m (Ok q) → IsQueryOf m (Ok q)
 bound-query (Ok meant) q is = is
 bound-query (Err fault) q is = is
@@ -98,11 +98,11 @@ module _ (c : Contents) (start : Token) (earlier : List Query) (x : Advised) whe
       let is : nat_lt (length earlier) MOST_QUERIES ≡ true = grind (arith, nat_tests, lt) in
       ap (λ b. cond b (bound_part c start (select_in x)) (Err (fault_at (S15 Queries) (open_token x)))) is
 
-  -- one that has a fault of its own
+  -- a SELECT that has a fault of its own
   pub query-wrong : (f : Fault) → length earlier < MOST_QUERIES → IsBoundAs (bound_part c start (select_in x)) (Err (refusal.Fault f)) → QueryMeans c start earlier x (Err f)
   query-wrong f lt is = subst (λ m. IsQueryOf m (Err f)) (sym (below lt)) (bound-fault (bound_part c start (select_in x)) f is)
 
-  -- one that means a query
+  -- a SELECT that means a query
   pub query-read : (q : Query) → length earlier < MOST_QUERIES → IsBoundAs (bound_part c start (select_in x)) (Ok q) → QueryMeans c start earlier x (Ok q)
   query-read q lt is = subst (λ m. IsQueryOf m (Ok q)) (sym (below lt)) (bound-query (bound_part c start (select_in x)) q is)
 
@@ -121,7 +121,7 @@ next-word [] (semicolon t) = (t_semicolon t, [], refl)
 next-word [] (text_end t) = (t_end t, [], refl)
 next-word (advised o x m ∷ xs) e = (t_mark Open o, ((words_of_windowed x ++ t_mark Close m ∷ []) ++ words_of_more_advised xs) ++ words_of_ending e, refl)
 
--- these were read, and the others are left at a token: what they mean behind these is what all mean
+-- some SELECTs were read, and the others are left at a token: what these mean behind them is what all mean
 pub record Going (c : Contents) (start : Token) (text : List ℕ) (tokens : List Token) (found : List Query) (at : ℕ) (w : QueryRow) : Type 0 where
   pub left : List Advised
   pub are : terminals text (drop at tokens) ≡ words_of_more_advised left ++ words_of_ending w.ending

@@ -65,13 +65,13 @@ module _ (c : Contents) (names : List Token) (xs : List NamedIndex) (n : ℕ) (t
       ap (λ l. with_room c (take n xs) l (drop n xs)) (drop_more names n t in-names) ∙
       ap (λ l. with_room c (take n xs) (name ∷ drop (n + 1) names) l) (drop_more xs n x in-all)
 
-  -- one finds room
+  -- a candidate finds room
   pub finds-room : length (indexes_of (with_candidates c (take n xs)) here.index.table) < MOST_INDEXES → with_room c (take n xs) (drop n names) (drop n xs) ≡ with_room c (take (n + 1) xs) (drop (n + 1) names) (drop (n + 1) xs)
   finds-room few =
       let is : nat_lt (length (indexes_of (with_candidates c (take n xs)) here.index.table)) MOST_INDEXES ≡ true = grind (arith, nat_tests, few) in
       split ∙ (ap (λ b. cond b after (Err (fault_at (S15 Indexes) name))) is ∙ ap (λ l. with_room c l (drop (n + 1) names) (drop (n + 1) xs)) (sym (take_more xs n x in-all)))
 
-  -- one finds none
+  -- a candidate finds no room
   pub finds-none : MOST_INDEXES ≤ length (indexes_of (with_candidates c (take n xs)) here.index.table) → with_room c (take n xs) (drop n names) (drop n xs) ≡ Err (fault_at (S15 Indexes) name)
   finds-none full =
       let is : nat_lt (length (indexes_of (with_candidates c (take n xs)) here.index.table)) MOST_INDEXES ≡ false = grind (arith, nat_tests, full) in

@@ -28,11 +28,11 @@ module _ (text : List ℕ) (tokens : List Token) (first : ℕ) where
       sym (take_at ws xs (length ws) refl) ∙ (ap (take (length ws)) (sym is) ∙ (take-map (terminal_of text) (length ws) (drop first tokens) ∙
       ap (terminals text) (sym (drop-take first (length ws) tokens))))
 
-  -- they end before the last token
+  -- words before others end before the last token
   pub ends-within : (ws : List Terminal) (x : Terminal) (xs : List Terminal) → terminals text (drop first tokens) ≡ ws ++ x ∷ xs → first + length ws < length tokens
   ends-within ws x xs is = let many = sym (length-append ws (x ∷ xs)) ∙ many-left (ws ++ x ∷ xs) is in omega (arith, many)
 
-  -- they are within the limits
+  -- words before others are within the limits
   pub limits-of : (ws xs : List Terminal) → AreWithinLimits (terminals text tokens) → terminals text (drop first tokens) ≡ ws ++ xs → AreWithinLimits ws
   limits-of ws xs within is =
       subst AreWithinLimits (ap (take (length ws)) (drop-map (terminal_of text) first tokens ∙ is) ∙ take_at ws xs (length ws) refl)

@@ -87,7 +87,7 @@ module _ (c : Contents) (q : Query) (t : Certificate) (right : AllRight c q t) w
             rows_is = g ∙ r.numbers.rows;
           }
 
-    -- the same of merges by a list
+    -- the plan space has no admissible merge of theirs by a list
     module _ (keys : Keys) (sa sb : Bool) where
       abbrev merged : Plan → Plan → Plan
       merged o i = merge keys (sorted_if sa keys o) (sorted_if sb keys i)

@@ -158,7 +158,7 @@ module _ (c : Contents) (q : Query) where
           sorted-stands keys least.is.entry a.entry r.plan p (record { has = r.has; numbers = r.numbers }) (right-at c q t right k a.entry p a.stands e) (least.is.same ∙ sym a.same) (least.is.whole ∙ sym whole) le
 
       module _ (m n : ℕ) (lx : IsLeastWhole t.entries x m) (ly : IsLeastWhole t.entries y n) (row : IsRowServed c q t keys x y m true n) (rows : (k : ℕ) → IsOf t.entries x k → IsRowServed c q t keys x y k false n) where
-        -- so the merges with it are all merges
+        -- where the merges with the least entry are served, all merges are
         from-least : AreMergesBy c q t keys x y
         from-least k l a b false false o i eo ei built = (rows k a).plain l a b o i eo ei built
         from-least k l a b false true o i eo ei built =

@@ -152,7 +152,7 @@ module _ (c : Contents) (q : Query) (t : Certificate) (k l : ℕ) where
           let may = built-merge c q keys is.entry is'.entry sa sb o i (right-at c q t right m is.entry o is.stands eo) (right-at c q t right n is'.entry i is'.stands ei) built in
           by-list keys (subst₂ (λ (x y : ℕ). IsMergeList c q (has x) (has y) keys) is.same is'.same may.list) m n is is' sa sb o i eo ei built
 
-    -- so for what a walk over them says
+    -- what a walk over the classes found says of the lists holds of all merges of the two
     pub walked : AllRight c q t → (r : Option (Plain × Uncovered)) → MatchOption r ((n : ℕ) (x : ClassNo) → slice_get found n ≡ Some (Some x) → IsFirstServed c q t found x k l) (λ x. IsOpen c q t x.0 x.1) → MatchOption r (AreMergesOf c q t k l) (λ x. IsOpen c q t x.0 x.1)
     walked right None h = merges-of h right
     walked right (Some x) h = h

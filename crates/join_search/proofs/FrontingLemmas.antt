@@ -93,7 +93,7 @@ module _ (c : Contents) (q : Query) (asked : Asked) (set : RelSet) where
       pub among-undominated : AllPairs (Unrelated is_path_at_most) front → AreUndominated c q (map path front)
       among-undominated pairs = undominated-of c q front pairs (All-weaker (IsPathAt c q set none) (IsPathOf c q) (λ x h. h.is_path) (map path front) (contained (map path items) (map path front) (IsPathAt c q set none) among-some paths))
 
-  -- the same of paths in another order
+  -- a front over the paths in another order
   module _ (first items : List Costed) (shuffled : IsPermutation first items) where
     there : (x : Path) → Contains (map path first) x → Contains (map path items) x
     there x h = Contains-permutation (map path first) (map path items) x (IsPermutation-map path first items shuffled) h

@@ -88,7 +88,7 @@ items-more P Q weaker items n x lt is before one =
 pub items-all : (P : Path → Type 0) (items : List Costed) (n : ℕ) (ps : List Path) → map path items ≡ ps → length items ≤ n → All (λ o. P (path o)) (take n items) → All P ps
 items-all P items n ps e le h = subst (All P) e (All-map P path items (subst (All (λ (o : Costed). P (path o))) (take_all n items le) h))
 
--- the same of any list
+-- one more item of any list, and all of them, of which something holds
 pub all-more : {X : Type 0} (P Q : X → Type 0) → ((x : X) → P x → Q x) → (xs : List X) (n : ℕ) (x : X) → n < length xs → x ≡ get_or xs n x → All P (take n xs) → Q x → All Q (take (n + 1) xs)
 all-more P Q weaker xs n x lt is before one = All-more Q xs n x lt (All-weaker P Q weaker (take n xs) before) (subst Q is one)
 

@@ -74,7 +74,7 @@ module _ (c : Contents) (q : Query) where
   pub path-classes : (s p : RelSet) (x : Path) → IsPathAt c q s p x → AreClasses q x.keys
   path-classes s p x h = subst (AreClasses q) (sym h.is_path.numbers.keys) (built-classes x.tree h.is_path.plan.built (plain-sorts x.tree h.is_path.plan.plain))
 
-  -- those of the outer side of a merge
+  -- the keys of the outer side of a merge are classes of the query
   pub side-classes : (s : RelSet) (a b : Set) (keys : Keys) (x : Path) (sorted : Bool) → IsPathAt c q s none x → IsMergeList c q a b keys → AreClasses q (cond sorted keys x.keys)
   side-classes s a b keys x true h list = list-classes a b keys list
   side-classes s a b keys x false h list = path-classes s none x h

@@ -17,7 +17,7 @@ use Rattle.sql_query.specs.Queries.{Query}
 use Rattle.plan_tree.specs.Space.{IsMergeList}
 use Rattle.join_search.specs.Merges.{all_longer, lists_of, longer, ones, twos}
 
--- those that were found, of the first four
+-- the classes that were found, of the first four
 pub somes : List (Option ℕ) → List ℕ
 somes [] = []
 somes (o ∷ os) = option_to_list o ++ somes os

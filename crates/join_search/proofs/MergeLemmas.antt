@@ -493,7 +493,7 @@ module _ (j : Split) (keys : Keys) (o i : Path) (bo bi : Bool) where
       work.ops ∙ (λ z. min (operators (conditions_where (λ k. is_join (as-set z) (as-set' z) k && not (is_pair_of keys k)) q.classes.clauses)) (2 ^ 64 - 1)) in
       h (merge_operators q keys t u) ops ∙ ap (λ p. merge_with j keys t u p (merge_operators q keys t u)) equal
 
-  -- and with the least work no more
+  -- with the least work a merge costs no more than its plan does
   pub merge-least : (result : Pair) → ((n : ℕ) → 0 ≡ min n (2 ^ 64 - 1) → result ≡ merge_with j keys t u 1 n) → IsAtMost result (capped_pair (kept_cost q.window (cost c q (merge keys t u))))
   merge-least result h =
       subst (λ (m : Pair). IsAtMost m (capped_pair (kept_cost q.window (cost c q (merge keys t u))))) (sym (h 0 (omega arith)))

@@ -92,7 +92,7 @@ module _ (c : Contents) (q : Query) where
       h (join_operators q o.tree i.tree)
       (ops ∙ ap (λ (a : Set). min (operators (conditions_where (joins a i.tree) q.classes.clauses)) (2 ^ 64 - 1)) (sets-same (has j.outer.0) (set_of o.tree) (at-set c q j.outer none o outer)))
 
-  -- and with none no more
+  -- with no operators a nested loop costs no more than its plan does
   pub nest-least : (o i : Plan) (result : Pair) → ((n : ℕ) → 0 ≡ min n (2 ^ 64 - 1) → result ≡ nest_with c q o i n) → IsAtMost result (capped_pair (kept_cost q.window (cost c q (nest o i))))
   nest-least o i result h = subst (λ (m : Pair). IsAtMost m (capped_pair (kept_cost q.window (cost c q (nest o i))))) (sym (h 0 (omega arith))) (capped-rises _ _ (kept-at-most q.window _ _ (ops-rise (cost c q o) (cost c q i) (estimate c q o) (estimate c q i) (join_operators q o i))))
 
@@ -168,7 +168,7 @@ module _ (c : Contents) (q : Query) (asked : Asked) where
   pub nests-later : (old new outers inners : List Path) → StayDominated c q old new → AreNestsServed c q asked old outers inners → AreNestsServed c q asked new outers inners
   nests-later old new outers inners still h o i x y = served-later c q asked old new (nest o i) still (h o i x y)
 
-  -- those with the parameterisations at which the set has a front are all
+  -- the nested loops with the parameterisations at which the set has a front are all
   pub nests-all : (table : Table) (front : List Path) (a b : RelSet) (params : List RelSet) → params ≡ params_of (places_at table b) →
       All (λ p. AreNestsServed c q asked front (paths_at table a none) (paths_at table b p)) params → (p : RelSet) → AreNestsServed c q asked front (paths_at table a none) (paths_at table b p)
   nests-all table front a b params same h p = by (front_at table b p) refl

@@ -65,7 +65,7 @@ module _ (c : Contents) (q : Query) where
         given = λ n. at-param k.set k.param x h n ∙ ap (λ (u : Plan). param_of u n) k.plan.is_plan;
       }
 
-  -- one that is given no rows stands at none
+  -- a kept plan that is given no rows stands at the parameterisation without relations
   whole-there : (fronts : Fronts) (t : Plan) (s : Stands fronts t) → IsEmpty (param_of t) → IsPlanIn (fronts s.set none) t
   whole-there fronts t s whole =
       subst (λ p. IsPlanIn (fronts s.set p) t) (same-number s.param none (none-zero s.param.0 (λ k. s.given k ∙ whole k))) s.is_there

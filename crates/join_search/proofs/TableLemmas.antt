@@ -144,7 +144,7 @@ none-there p (y ∷ xs) h = by (is_at p y) (All-head (λ (x : Placed). x.front �
     by true e later = ap (map path) e
     by false e later = later
 
--- so far no list but those of single relations has fronts
+-- no list below a number but those of single relations has fronts
 pub forgot-more : (old new : List (Vec Placed Global)) (n : ℕ) → ((k : ℕ) → k < n → IsSingle (set_numbered k) ⊎ (list_at old k ≡ [])) → IsSingle (set_numbered n) ⊎ (list_at new n ≡ []) →
     ((k : ℕ) → ¬ (k ≡ n) → list_at new k ≡ list_at old k) → (k : ℕ) → k < n + 1 → IsSingle (set_numbered k) ⊎ (list_at new k ≡ [])
 forgot-more old new n before here others k lt = by (nat_eq k n) refl

@@ -62,7 +62,7 @@ room-told list m n k h nothing none ks cost = ⊎_elim here other (same-or list 
     other : bytes_eq list ks ≡ false → is_told n ks cost ≡ is_told m ks cost
     other differ = ap (λ x. is_within (least_in x) cost) (known-other list m n (Some k) h ks differ)
 
--- and no cost of a path that starts first
+-- room for a list tells no cost of a path that starts first
 pub room-early : (list : Keys) (m n : Bounds) (k : Known) → IsKnownAs list (Some k) m n → k.early ≡ None → (ks : Keys) (e : Pair) → early_at n ks ≡ Some e → early_at m ks ≡ Some e
 room-early list m n k h nothing ks e is = ⊎_elim here other (same-or list ks)
   where

@@ -1,4 +1,4 @@
--- What the paths that were offered cost, and what is told of them.
+-- What the paths that were offered cost, and what is known of them.
 use Rattle.std.proofs.Common.{◌≡◌, ◌≤◌, ◌⊎◌, ◌&&◌, ◌||◌, ℕ, Bool, true, false, nat_le, List, map, Option, None, Some, ⊎_elim, refl, sym, ◌∙◌, ap, subst, le_refl, le_trans, arith}
 use Rattle.std.specs.Prelude.{All, Contains}
 use Rattle.std.proofs.lemmas.Bool.{and_from, and_parts, false≢true, or_cases, leb-true, or_right}
@@ -160,7 +160,7 @@ module _ (ps : List Path) (m : Bounds) (h : AreTold ps m) (ks : Keys) where
   pub beats-sound : (c : Pair) → beats (least_at m ks) c ≡ true → IsBeaten ps c ks
   beats-sound c is-so = beats-by (least_at m ks) refl c is-so
 
-  -- and where no path has a startup it beats what one of them does
+  -- where no path has a startup, the least cost beats what one of them does
   beaten-by : All (λ p. p.startup ≡ 0) ps → (o : Option Pair) → least_at m ks ≡ o → (c : Pair) (b : IsBeaten ps c ks) → is_told m ks (pair_of b.path) ≡ true → beats o c ≡ true
   beaten-by none None e c b told = absurd (false≢true (sym (ap (λ o. is_within o (pair_of b.path)) e) ∙ told))
   beaten-by none (Some least) e c b told =
@@ -188,7 +188,7 @@ early-beats ps m h ks (Some least) e c is-so =
       covers = x.covers;
     }
 
--- the same of paths and bounds as they are found
+-- paths and bounds as they are found: where a cost of theirs beats another, a path does
 module _ (now items : List Costed) (m : Bounds) (list by' : Keys) (c : Pair) (b : Bool) (view : items ≡ now) (h : AreBounds (map path items) m) (same : list ≡ by')
     (is : b ≡ either_beats m list c) where
   as-found : b ≡ either_beats m by' c

@@ -74,14 +74,14 @@ module _ (t : ClassTable) where
   numbered : (test : Clause → Bool) (set : ℕ → Bool) → ((k : ℕ) → k < length t.clauses → set k ≡ test (clause_at t.clauses k)) → numbers_from 0 (length t.clauses) set ≡ numbers_from 0 (length t.clauses) (is_number_where test t)
   numbered test set h = numbers-same set (is_number_where test t) 0 (length t.clauses) (λ k low high. h k (omega (arith, high)))
 
-  -- those of a set alone
+  -- the numbers of a set alone, where a second one is empty
   alone : (test : Clause → Bool) (chosen none : List ℕ) → ((k : ℕ) → contains chosen k ≡ nat_lt k (length t.clauses) && test (clause_at t.clauses k)) → ((k : ℕ) → contains none k ≡ false) → numbers_from 0 (length t.clauses) (either chosen none) ≡ numbers_from 0 (length t.clauses) (is_number_where test t)
   alone test chosen none h g = numbered test (either chosen none) (λ k lt. one k (length t.clauses) (test (clause_at t.clauses k)) (contains chosen k) (contains none k) lt (h k) (g k))
     where
       one : (n m : ℕ) (a x y : Bool) → n < m → x ≡ nat_lt n m && a → y ≡ false → x || y ≡ a
       one n m a x y lt e f = grind (arith, common_steps, lt, e, f)
 
--- those of the clauses of a relation, and of its parameterisation
+-- the numbers of the clauses of a relation, and of its parameterisation
 pub params_numbered : (r : ℕ) (p : Set) (base param : List ℕ) (t : ClassTable) → ((k : ℕ) → contains base k ≡ nat_lt k (length t.clauses) && is_base r (clause_at t.clauses k)) → ((k : ℕ) → contains param k ≡ nat_lt k (length t.clauses) && is_param r p (clause_at t.clauses k)) → numbers_from 0 (length t.clauses) (either base param) ≡ numbers_from 0 (length t.clauses) (is_number_where (is_local r p) t)
 params_numbered r p base param t h g =
     numbered t (is_local r p) (either base param) (λ k lt. two k (length t.clauses) (is_base r (clause_at t.clauses k)) (is_param r p (clause_at t.clauses k)) (contains base k) (contains param k) lt (h k) (g k))
@@ -89,11 +89,11 @@ params_numbered r p base param t h g =
     two : (n m : ℕ) (a b x y : Bool) → n < m → x ≡ nat_lt n m && a → y ≡ nat_lt n m && b → x || y ≡ a || b
     two n m a b x y lt e f = grind (arith, common_steps, lt, e, f)
 
--- those of the clauses inside a set of relations
+-- the numbers of the clauses inside a set of relations
 pub all_numbered : (set : Set) (all none : List ℕ) (t : ClassTable) → ((k : ℕ) → contains all k ≡ nat_lt k (length t.clauses) && is_all set (clause_at t.clauses k)) → ((k : ℕ) → contains none k ≡ false) → numbers_from 0 (length t.clauses) (either all none) ≡ numbers_from 0 (length t.clauses) (is_number_where (is_all set) t)
 all_numbered set all none t h g = alone t (is_all set) all none h g
 
--- those of the pair clauses of some classes among the clauses that join two sets
+-- the numbers of the pair clauses of some classes among the clauses that join two sets
 pub pairs_numbered : (a b : Set) (keys equal none : List ℕ) (t : ClassTable) → ((k : ℕ) → contains equal k ≡ nat_lt k (length t.clauses) && (is_join a b (clause_at t.clauses k) && is_pair_of keys (clause_at t.clauses k))) → ((k : ℕ) → contains none k ≡ false) → numbers_from 0 (length t.clauses) (either equal none) ≡ numbers_from 0 (length t.clauses) (is_number_where (λ k. is_join a b k && is_pair_of keys k) t)
 pairs_numbered a b keys equal none t h g = alone t (λ k. is_join a b k && is_pair_of keys k) equal none h g
 
@@ -109,7 +109,7 @@ from-same n f g (k ∷ ks) h =
     let later = from-same (n + 1) f g ks (λ j lt. subst (λ m. f m ≡ g m) (let same : n + suc j ≡ n + 1 + j = omega arith in same) (h (suc j) (omega (arith, lt)))) in
     ap (λ b. cond b (k.cond ∷ conditions_from (n + 1) f ks) (conditions_from (n + 1) f ks)) here ∙ ap (λ xs. cond (g n) (k.cond ∷ xs) xs) later
 
--- those of a set of clauses alone
+-- the numbers of a set of clauses alone, where a second one is empty
 pub used_alone : (used none : List ℕ) (t : ClassTable) → ((k : ℕ) → contains none k ≡ false) → numbers_from 0 (length t.clauses) (either used none) ≡ numbers_from 0 (length t.clauses) (contains used)
 used_alone used none t g = numbers-same (either used none) (contains used) 0 (length t.clauses) (λ k low high. only (contains used k) (contains none k) (g k))
   where

@@ -83,7 +83,7 @@ columns-most s t some =
     by : (n m : ℕ) → n ≤ ALL_ROWS * WHOLE_SHARE * WHOLE_SHARE → WHOLE_SHARE * WHOLE_SHARE * 1 ≤ m → n / m ≤ ALL_ROWS
     by n m w d = quotient-most n ALL_ROWS m (omega (arith, d)) (omega (arith, w, d))
 
--- the same over its numbers
+-- the share of two columns that are equal is no more than all rows, by what is not NULL and how many values there are
 pub columns_share : (a b d e : ℕ) → a ≤ WHOLE_SHARE → b ≤ WHOLE_SHARE → 1 ≤ d → ALL_ROWS * a * b / (WHOLE_SHARE * WHOLE_SHARE * max d e) ≤ ALL_ROWS
 columns_share a b d e h k some =
     let v : ALL_ROWS * a ≤ ALL_ROWS * WHOLE_SHARE = mul-le-mul_left ALL_ROWS h in

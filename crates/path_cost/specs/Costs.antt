@@ -46,7 +46,7 @@ module _ (c : Contents) (range : Range) (t : ClassTable) where
   abbrev pub local_operators : ℕ → Set → ℕ
   local_operators r p = operators (conditions_where (is_local r p) t.clauses)
 
-  -- the operators of those of them that are no conditions of an index
+  -- the operators of a relation's clauses, with those of its parameterisation, that are no conditions of an index
   abbrev pub other_operators : ℕ → Set → (ℕ → Bool) → ℕ
   other_operators r p conditions = operators (conditions_from 0 (λ n. is_local r p (clause_at t.clauses n) && not (conditions n)) t.clauses)
 

@@ -1,4 +1,4 @@
--- Costs of scans as they are told: cut to at most 10^18. Own.
+-- Costs of scans as they are printed: cut to at most 10^18. Own.
 use Rattle.std.specs.Prelude.{ℕ, ◌-◌, ◌^◌, min, false, Bool, List}
 use Rattle.pg_base.specs.Sets.{has}
 use Rattle.pg_base.specs.declared.numbers.IndexNo.{IndexNo}

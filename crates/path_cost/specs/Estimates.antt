@@ -22,7 +22,7 @@ use Rattle.eq_classes.specs.declared.classes.ClassNo.{ClassNo}
 abbrev pub conditions_where : (Clause → Bool) → List Clause → List Cond
 conditions_where test clauses = map (λ (k : Clause). k.cond) (filter test clauses)
 
--- those of a list of conditions that have a number of a set, in order; the first of the list has the number given
+-- the conditions of a list that have a number of a set, in order; the first of the list has the number given
 abbrev pub picked_from : ℕ → (ℕ → Bool) → List Cond → List Cond
 picked_from n chosen [] = []
 picked_from n chosen (e ∷ es) = cond (chosen n) (e ∷ picked_from (n + 1) chosen es) (picked_from (n + 1) chosen es)
@@ -56,7 +56,7 @@ is_keyed a b keys t n = nat_lt n (length t.clauses) && (is_join a b (clause_at t
 abbrev pub either : List ℕ → List ℕ → ℕ → Bool
 either a b n = contains a n || contains b n
 
--- and not in a third
+-- a number is in one of two sets of clauses and not in a third
 abbrev pub either_but : List ℕ → List ℕ → List ℕ → ℕ → Bool
 either_but a b c n = either a b n && not (contains c n)
 
@@ -80,22 +80,22 @@ table_rows c range r = rows_of c (relation_at range (record { 0 = r })).0
 abbrev pub table_pages : Contents → Range → ℕ → ℕ
 table_pages c range r = pages_of c (relation_at range (record { 0 = r })).0
 
--- so many rows, however many, after shares, taken in their order: each leaves its part, rounded up; what is left in the end
--- is held from 1 to 10^12
+-- what shares, taken in their order, leave of a number of rows of any size: each leaves its part, rounded up; what is left
+-- in the end is held from 1 to 10^12
 abbrev pub kept : ℕ → List ℕ → ℕ
 kept n shares = clamped (fold share_kept n shares)
 
 module _ (c : Contents) (range : Range) where
-  -- so many rows after the clauses of a set of numbers: what a clause multiplies with is taken of all clauses of the query,
-  -- which comes to the same as of those of the set, since each set that is folded has all bounds of a column or none
+  -- what the clauses of a set of numbers leave of so many rows: a clause's share is taken from all clauses of the query,
+  -- which comes to the same as from those of the set, since each set that is folded has all bounds of a column or none
   abbrev pub kept_by : ℕ → (ℕ → Bool) → ClassTable → ℕ
   kept_by n chosen t = kept n (weights c range (conditions t) (numbers_from 0 (length t.clauses) chosen))
 
-  -- so many rows after the clauses that pass a test
+  -- what the clauses that pass a test leave of so many rows
   abbrev pub kept_where : ℕ → (Clause → Bool) → ClassTable → ℕ
   kept_where n test t = kept_by n (is_number_where test t) t
 
-  -- so many rows after those of some conditions that have a number of a set
+  -- what those of some conditions that have a number of a set leave of so many rows
   abbrev pub kept_among : ℕ → (ℕ → Bool) → List Cond → ℕ
   kept_among n chosen es = kept n (weights c range es (numbers_from 0 (length es) chosen))
 

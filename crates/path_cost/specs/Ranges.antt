@@ -41,7 +41,7 @@ side_of Lt x = Some (x, false)
 side_of Le x = Some (x, false)
 side_of _ x = None
 
--- the same by the literal: NULL bounds nothing
+-- what an operator with a literal behind it is to a column, by the literal: NULL bounds nothing
 abbrev pub bound_by : Op → ColRef → Value → Option Bound
 bound_by op x Null = None
 bound_by op x v = side_of op x

@@ -18,7 +18,7 @@ use eq_classes::{ClassNo, Classes, ClauseSet, note};
 use exact_rows::ExactRows;
 use pg_base::{RelNo, RelSet};
 
-/// So many rows after the clauses of two sets, by their numbers.
+/// What the clauses of two sets, by their numbers, leave of so many rows.
 pub(crate) fn after(
     cat: &Catalog,
     range: &RangeTable,
@@ -43,7 +43,7 @@ pub(crate) fn after(
     )
 }
 
-/// The same, of a number of rows of any size.
+/// What the clauses of two sets leave of a number of rows of any size.
 fn left_of(
     cat: &Catalog,
     range: &RangeTable,

@@ -172,7 +172,7 @@ fn parts_of_arm(arm: &Expr) -> &[Expr]
     }
 }
 
-/// So many rows after those of some conditions that have a number of a set.
+/// What some conditions leave of so many rows: those of them whose numbers are in a set.
 fn after_parts(
     cat: &Catalog,
     range: &RangeTable,

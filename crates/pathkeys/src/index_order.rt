@@ -136,7 +136,7 @@ fn given_keys(
 /// The classes by which a scan of the relation by the index, forward or backward, is known to be sorted. From the left
 /// over the key columns: a column without a class in its family ends the list; a class that has a constant or stands
 /// before is passed over; another is given where its direction and place of NULL are the column's, both turned round for
-/// a backward scan, else the list ends. A hash index gives no order. The error means want of memory.
+/// a backward scan, else the list ends. A hash index gives no order. The error means that memory ran out.
 pub fn index_keys(
     alloc: Global,
     cat: &Catalog,

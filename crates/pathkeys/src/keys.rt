@@ -35,7 +35,7 @@ impl Model for Keys {
 }
 
 impl Keys {
-    /// The list of these classes. The condition is that none stands twice. The error means want of memory.
+    /// The list of some classes. The condition is that none stands twice. The error means that memory ran out.
     pub fn from_slice(alloc: Global, s: &[ClassNo]) -> Result<Keys, Memory>
         requires different { AreDifferent (class_numbers s.now) }
         ensures list { IfOk result (λ keys. keys ≡ class_numbers s.now) }
@@ -52,7 +52,7 @@ impl Keys {
         self.items.as_slice()
     }
 
-    /// An equal list. The error means want of memory.
+    /// An equal list. The error means that memory ran out.
     pub fn copy(&self, alloc: Global) -> Result<Keys, Memory>
         ensures equal { IfOk result (λ keys. keys ≡ self.now) }
     {

@@ -48,7 +48,7 @@ fn new_class(classes: &Classes, before: &[OrderItem], item: OrderItem) -> Option
 }
 
 /// The classes by which ORDER BY sorts: those of its columns in their default families, in order, without those that
-/// have a constant or stood before. A column without a class adds none. The error means want of memory.
+/// have a constant or stood before. A column without a class adds none. The error means that memory ran out.
 pub fn order_keys(alloc: Global, classes: &Classes, order: &[OrderItem]) -> Result<Keys, Memory>
     ensures keys { IfOk result (λ ks. ks ≡ keys.order_keys classes.now order.now) }
 {

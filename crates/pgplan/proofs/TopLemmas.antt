@@ -80,7 +80,7 @@ run_over (Err ends.Memory) status text w c held held' errs errs' before now is s
   line = λ other. rw number told;
 }
 
--- a failed out is told, and nothing else is told as one
+-- a failed out is reported, and nothing else is reported as one
 pub cause_over : (ended : Result (Unit {0}) End) (status before now : ℕ) → status ≡ number_of (status_of_work ended) → HasWriteCause ends.Write before now ended → HasStatusCause status before now
 cause_over (Ok u) status before now number cause = record { write = λ e. absurd (omega (arith, e, number)); quiet = λ other. cause.quiet (λ wrong. cc) }
 cause_over (Err (ends.Fault f)) status before now number cause = record { write = λ e. absurd (omega (arith, e, number)); quiet = λ other. cause.quiet (λ wrong. cc) }
@@ -132,7 +132,7 @@ module _ (status : ℕ) (text : List ℕ) (held held' errs errs' : Option (List 
     | inr (inr (inr memory)) ↦ inr (inr (inr memory))
   ]
 
-  -- and one in which a fault is reached tells it
+  -- a run over a text in which a fault is reached prints it, unless it is cut short
   over_reached : ReachesFault text → (status ≡ 3) ⊎ IsCutShort status
   over_reached reached = elim is.among [
     | inl done ↦ absurd (none_reached text held held' (is.done done) reached)

@@ -8,7 +8,7 @@ use Rattle.std.specs.Str.Parse.{IsNumeral, digits_value}
 abbrev pub IsRunCommand : List (List ℕ) → Type 0
 IsRunCommand words = words ≡ codes "run" ∷ []
 
--- one to 20 decimal digits that write this number, which is below 2^64
+-- a word of one to 20 decimal digits that write a number below 2^64
 pub record IsNumberWord (n : ℕ) (word : List ℕ) : Type 0 where
   pub digits : IsNumeral 10 word
   pub few : length word ≤ 20

@@ -19,7 +19,7 @@ use Rattle.statements.specs.Replies.{IsReply}
 use Rattle.statements.specs.Scripts.{Worked, AreFirst, AreAll, world_after, place_after, replies}
 use Rattle.pgplan.specs.Statuses.{IsTold, IsWorkStatus, line_of}
 
--- these bytes were taken, all that the source had
+-- a text was taken, all that the source had
 pub record IsReadWhole (left left' : Option (List ℕ)) (text : List ℕ) : Type 0 where
   pub taken : Consumes left left' text
   pub within : length text ≤ MOST_SCRIPT_BYTES

@@ -14,7 +14,7 @@ pub struct Retried<T> {
 }
 
 impl<T> Retried<T> {
-    /// This reader or writer.
+    /// A reader or writer over another one.
     pub fn new(inner: T) -> Retried<T>
         ensures inner { result.inner ≡ inner }
     {

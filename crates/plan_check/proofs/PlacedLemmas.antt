@@ -28,7 +28,7 @@ placed-next at i p new e there before put r d lt is = by (cases_lt r i)
         let one : e ≡ d = same_Some e d (sym there ∙ (ap at same ∙ is)) in
         subst (λ n. IsAmong new d.set.0 n) same (subst (λ (x : Entry). IsAmong new x.set.0 i) one put.here)
 
--- and all of them
+-- once all ranks were put, the entries are placed
 pub placed-all : (xs : List Entered) (order : List ℕ) (i : ℕ) (p : SetPlaces) → length order ≤ i → AreRanked order (length xs) → order_of p ≡ order → ((r : ℕ) (d : Entry) → r < i → slice_get (map entry xs) (get_or order r 0) ≡ Some d → IsAmong p d.set.0 r) → ArePlaced (map entry xs) p
 placed-all xs order i p le ranked same h = record {
   each = λ k e at.
@@ -48,7 +48,7 @@ placed-all xs order i p le ranked same h = record {
 pub there-read : (xs : List Entered) (p : SetPlaces) (i n : ℕ) → ArePlaced (map entry xs) p → i < length (order_of p) → n ≡ place_at p i → n < length xs
 there-read xs p i n placed lt is = subst₂ (λ a b. a < b) (sym is) (length-map xs entry) (placed.there i lt)
 
--- so what all ranks of a range have, each entry of the set has
+-- what all ranks of a set's range have, each entry of the set has
 pub each-of : (es : List Entry) (p : SetPlaces) (s from past : ℕ) (P : ℕ → Type 0) → ArePlaced es p → from ≡ first_of p s → past ≡ min (past_of p s) (length (order_of p)) →
     ((i : ℕ) → from ≤ i → i < past → P (place_at p i)) → (n : ℕ) → IsOf es s n → P n
 each-of es p s from past P placed f g h n is =
@@ -79,7 +79,7 @@ module _ (w : Option Window) where
         let x = entry-at es k lt in
         beater-of n k e x.0 at x.1 (λ is. each-of es p e.set.0 from past (IsNoBeater w es n) placed f g inside k is)
 
-    -- and so is what beats a candidate
+    -- what beats a candidate is of its set
     pub unbeaten-inside : (from past : ℕ) (e : Entry) → from ≡ first_of p e.set.0 → past ≡ min (past_of p e.set.0) (length (order_of p)) →
         ((i : ℕ) → from ≤ i → i < past → (d : Entry) → beats w (get_or es (place_at p i) d) e ≡ false) → IsUnbeaten w es e
     unbeaten-inside from past e f g inside k lt d = by (nat_eq x.set.0 e.set.0) refl

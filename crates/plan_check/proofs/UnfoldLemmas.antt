@@ -80,7 +80,7 @@ kept-at xs ys (suc k) p h = kept-by xs ys k p (slice_get xs k) refl h where
   kept-by xs ys k p None e h = absurd (none-some p h)
   kept-by xs ys k p (Some x) e h = ap (option_and_then (λ x. x)) (in-front xs ys k x e) ∙ h
 
--- and the other way round, where the number is that of one of the first
+-- where more follow, the plan of a number of one of the first is the plan of that number without them
 pub at-lower : (xs ys : List (Option Plan)) (m : ℕ) → m ≤ length xs → plan_at (xs ++ ys) m ≡ plan_at xs m
 at-lower xs ys zero h = refl
 at-lower xs ys (suc k) h = ap (option_and_then (λ x. x)) (from-front xs ys k (omega (arith, h)))

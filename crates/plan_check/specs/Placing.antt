@@ -4,7 +4,7 @@ use Rattle.plan_check.specs.Certificates.{Entry}
 use Rattle.plan_check.specs.declared.places.TheConstants.{MOST_SETS}
 use Rattle.plan_check.specs.declared.places.SetPlaces.{SetPlaces}
 
--- the number by which a set is told apart: its own, where the query has at most so many relations as it may have
+-- the number by which a set is distinguished: its own, where the query has at most so many relations as it may have
 abbrev pub slot : ℕ → ℕ
 slot s = s % MOST_SETS
 

@@ -9,7 +9,7 @@ ghost use Rattle.plan_check.specs.Ranking.{AreRanked};
 use crate::Entry;
 use pg_base::RelSet;
 
-/// Sets of relations are told apart by so many numbers, as many as there are sets of the relations that a query may have.
+/// Sets of relations are distinguished by as many numbers as there are sets of the relations that a query may have.
 pub const MOST_SETS: usize = 1_024;
 
 /// The places of entries by rank, and from which rank on and before which one those of each set stand, from 0. No other
@@ -34,7 +34,7 @@ impl<'a> Drop for SetPlaces<'a> {
     }
 }
 
-/// The number by which a set is told apart.
+/// The number by which a set is distinguished.
 fn slot_of(set: RelSet) -> usize
     ensures slot { result ≡ slot set.0 }
     ensures few { result < 1024 }

@@ -135,7 +135,7 @@ module _ (tables : List TableDef) (q : Query) (kept : List Bool) (xs : List Name
       none : (j : ℕ) → 0 + j ≡ j
       none j = omega arith
 
-  -- and what the query reads of them are those that it reads of the kept ones
+  -- the indexes that the query reads of those that are left are those that it reads of the kept ones
   pub left-read : filter (is_read q) left ≡ filter (is_read q) (items_where_true kept xs)
   left-read = by kept xs
     where

@@ -70,7 +70,7 @@ module _ (w : World) (q : Query) where
     -- an item whose column has no class, or one that has a constant, ties
     pub no_class : class_by item ≡ None → item_order w q item x y ≡ Equal
     pub constant : (n : ℕ) → class_by item ≡ Some n → is_constant q.classes n ≡ true → item_order w q item x y ≡ Equal
-    -- it ties where its class does
+    -- an item ties where its class does
     pub tied : (n : ℕ) → class_by item ≡ Some n → class_order (class_at q.classes.classes n) (all_of_query q) (value_at w q x) (value_at w q y) ≡ Equal → item_order w q item x y ≡ Equal
     -- the first item by a class without a constant orders as the class
     pub first : (n : ℕ) → class_by item ≡ Some n → is_constant q.classes n ≡ false → AllByRecursion (λ j. class_by j ≡ Some n → ⊥) before → item_order w q item x y ≡ class_order (class_at q.classes.classes n) (all_of_query q) (value_at w q x) (value_at w q y)

@@ -101,14 +101,14 @@ Perm-exchange {A} {B} {C} f (x ∷ xs) ys =
     (Perm-append_right (map (f x) ys) (flat_map (λ z. map (f z) ys) xs) (flat_map (λ y. map (λ z. f z y) xs) ys) (Perm-exchange f xs ys))
     (rw (← flat_map_units (f x) ys) (Perm-sym (flat_map (λ y. f x y ∷ map (λ z. f z y) xs) ys) (flat_map (λ y. f x y ∷ []) ys ++ flat_map (λ y. map (λ z. f z y) xs) ys) (flat_map_append (λ y. f x y ∷ []) (λ y. map (λ z. f z y) xs) ys)))
 
--- to std's word
+-- a permutation is one in std's word
 pub to_std : {A : Type 0} (xs ys : List A) → Perm xs ys → IsPermutation xs ys
 to_std _ _ none = IsPermutation-refl []
 to_std _ _ (keep x xs ys p) = IsPermutation-cons x xs ys (to_std xs ys p)
 to_std _ _ (turn x y xs) = IsPermutation-middle (x ∷ []) y xs
 to_std _ _ (join xs ys zs p q) = IsPermutation-trans xs ys zs (to_std xs ys p) (to_std ys zs q)
 
--- and from it
+-- an item in front and one at a place may change places
 with_set : {A : Type 0} (a : A) (xs : List A) (i : ℕ) (d : A) → i < length xs → Perm (a ∷ xs) (get_or xs i d ∷ set xs i a)
 with_set a [] i d lt = absurd (omega arith)
 with_set a (x ∷ xs) zero d lt = turn a x xs

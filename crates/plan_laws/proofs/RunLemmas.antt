@@ -11,7 +11,7 @@ use Rattle.plan_laws.specs.Moved.{over}
 use Rattle.plan_laws.proofs.EstimateLemmas.{kept-over}
 
 module _ (tables : List TableDef) (a b : List NamedIndex) (range : Range) (t : ClassTable) where
-  -- so many rows after the clauses of a set of numbers
+  -- what the clauses of a set of numbers leave of some rows
   pub kept-by-over : (n : ℕ) (chosen : ℕ → Bool) → kept_by (over tables b) range n chosen t ≡ kept_by (over tables a) range n chosen t
   kept-by-over n chosen = kept-over tables a b range n (conditions t) (numbers_from 0 (length t.clauses) chosen)
 

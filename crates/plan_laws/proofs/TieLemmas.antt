@@ -115,7 +115,7 @@ module _ (w : World) (q : Query) (world : IsWorld w) (bound : IsWellBound w.cont
       (tie_at g q.classes bound.classes (value_at w q t) (typed w q world bound) (fits w q world bound t) set c x y holds_t has hx hy sx sy))
       (tie_at g q.classes bound.classes (value_at w q s) (typed w q world bound) (fits w q world bound s) set c x y holds_s has hx hy sx sy)
 
-  -- they tie on a member of a class that has a constant
+  -- two tuples tie on a member of a class that has a constant
   pub constants_tie : (x : ColRef) → has_constant c ≡ true → has_member c x ≡ true → set x.rel.0 ≡ true → (d n : Bool)
       → column_order c.family d n (value_at w q s x) (value_at w q t x) ≡ Equal
   constants_tie x some hx sx d n =

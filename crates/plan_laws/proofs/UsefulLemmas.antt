@@ -88,7 +88,7 @@ joining-class a b cs n h =
     let same : j.at ≡ n = let is = j.is in omega (arith, is) in
     subst (λ k. is_joining a b (class_at cs k) ≡ true) same j.joins
 
--- and of the table
+-- a class that is joining is one of the table
 pub joining-below : (a b : Set) (cs : List Class) (n : ℕ) → list_any (nat_eq n) (take 4 (joining_from a b 0 cs)) ≡ true → n < length cs
 joining-below a b cs n h =
     let j = joining-at a b 0 cs n (any-taken (nat_eq n) 4 (joining_from a b 0 cs) h) in
@@ -162,7 +162,7 @@ module _ (c : Contents) (q : Query) where
       price-falls (cost c q p) (cost c q o) (asked w (query_rows c q)) (query_rows c q) (set-some c q.range q.classes (all_of_query q))
       (asked-most w (query_rows c q)) (record { startup = startup; total = total })
 
-  -- it is no more than the plan costs in all
+  -- the price of a plan is no more than it costs in all
   pub price-total : HaveRows c q → (w : Option Window) (p : Plan) → price_by c q w p ≤ (cost c q p).total
   price-total some None p = le_refl (cost c q p).total
   price-total some (Some w) p =

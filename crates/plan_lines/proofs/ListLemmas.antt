@@ -17,7 +17,7 @@ module _ {A : Type 0} (Has : A → Type 0) (text : A → List ℕ) (d : ℕ) (be
     pub each : All Has more
     pub spells : left ≡ flat_map text more ++ rest
 
-  -- the same whatever the things are
+  -- some of the things were read, and the others are left, whatever the things are
   pub record AreRead (old : List ℕ) (taken : List A) (left : List ℕ) : Type 0 where
     pub is : (xs : List A) (rest : List ℕ) → All Has xs → IsShallow d rest → old ≡ flat_map text xs ++ rest → IsLeft xs rest taken left
 

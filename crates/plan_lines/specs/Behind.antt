@@ -22,7 +22,7 @@ abbrev pub GivesBefore : List ℕ → List ℕ → Option (Bor (List ℕ)) → T
 GivesBefore words text result =
     (t : List ℕ) → text ≡ t ++ words → option_map (λ (l : Bor (List ℕ)). l.now) result ≡ Some t
 
--- these words and what is left are the text
+-- some words and what is left are the text
 abbrev pub IsLeft : List ℕ → List ℕ → Bor (List ℕ) → Type 0
 IsLeft words text left = text ≡ words ++ left.now
 

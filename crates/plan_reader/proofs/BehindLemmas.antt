@@ -35,7 +35,7 @@ module _ (c : Contents) (q : Query) (d : ℕ) where
     pub fits : All Fits used
     pub spells : left ≡ written_beneath c q d p used ++ rest
 
-  -- the same without an end
+  -- a text begins with the first line of a plan, and the numbers with that line's; the others and the rest of the text are left
   pub record Begins (p : Plan) (n : Pair) (text : List ℕ) (numbers others : List Pair) (left : List ℕ) : Type 0 where
     pub pairs : numbers ≡ n ∷ others
     pub fits : Fits n

@@ -157,7 +157,7 @@ module _ (c : Contents) (q : Query) where
   no-first d old mid before after res first none p (n ∷ ns) rest text stands count fits shallow e =
       absurd (subst (λ (o : Option NodeLine). IsSomeAnd o (λ l. IsLineOf l (kind_of p) (behind_words c q p) n)) none (first-parts d old mid res p n ns rest first text fits e).0)
 
-  -- it stands too deep
+  -- a node stands too deep
   pub too-deep : (d : ℕ) (old new : List ℕ) (before after : List Pair) → 64 < d → IsRead c q d old new before after None
   too-deep d old new before after deep p ns rest text stands count fits shallow e = let low = stands-low d p stands in absurd (omega (arith, low, deep))
 

@@ -21,7 +21,7 @@ abbrev pub later_pairs : List Pair → List Pair
 later_pairs [] = []
 later_pairs (n ∷ ns) = ns
 
--- these numbers as a cost and rows
+-- a pair of numbers as a cost and rows
 abbrev pub figures_with : Pair → List ℕ
 figures_with n = figures_text (decimal n.0) n.1
 

@@ -9,7 +9,7 @@ use pg_base::Memory;
 use plan_space::Judged;
 use std::alloc::Global;
 
-/// That a plan is none of the plan space, and the line of the wrong node.
+/// The text that a plan is none of the plan space, with the line of the wrong node.
 fn outside_text(alloc: Global, line: u32) -> Result<Vec<u8>, Memory>
     ensures { IfOk result (λ text. text.items ≡ texts.reason_text (Judged.Outside line)) }
 {
@@ -17,7 +17,7 @@ fn outside_text(alloc: Global, line: u32) -> Result<Vec<u8>, Memory>
     Ok(text.into_bytes())
 }
 
-/// That a plan costs as much as the limit or more, and the limit.
+/// The text that a plan costs as much as the limit or more, with the limit.
 fn limit_text(alloc: Global) -> Result<Vec<u8>, Memory>
     ensures { IfOk result (λ text. text.items ≡ texts.reason_text Judged.Limit) }
 {
@@ -25,7 +25,7 @@ fn limit_text(alloc: Global) -> Result<Vec<u8>, Memory>
     Ok(text.into_bytes())
 }
 
-/// That a number of a node is not its own: its line, whether it is the cost, the number that is written and the node's own.
+/// The text that a number of a node is not its own: its line, whether it is the cost, the number written and the node's own.
 fn number_text(
     alloc: Global,
     line: u32,

@@ -102,7 +102,7 @@ either : {A B C : Type 0} → (A → C) → (B → C) → A ⊎ B → C
 either f g (inl a) = f a
 either f g (inr b) = g b
 
--- it reads all of them where each is found
+-- a plan reads all relations exactly where each is found in it
 pub all-read : (n a : ℕ) (p : Plan) → ReadsBelow n p → ((k : ℕ) → has a k ≡ set_of p k) → ((k : ℕ) → k < n → has a k ≡ true) ↔ IsSameSet (set_of p) (λ k. nat_lt k n)
 all-read n a p reads same = (λ h k. by h k (nat_lt k n) refl, λ h k lt. same k ∙ h k ∙ lt-ltb k n lt)
   where

@@ -124,7 +124,7 @@ named-at ks chosen f n lt = ap (list_any f) (conditions-at ks chosen n (chosen n
     by true = refl
     by false = refl
 
--- so many clauses from a number on, of which one is found
+-- the clauses from a number on, of which one is found
 from-found : (ks : List Clause) (chosen : ℕ → Bool) (f : Cond → Bool) (n left : ℕ) → n + left ≡ length ks → list_any f (conditions_from n chosen (drop n ks)) ≡ true → Found ks chosen f
 from-found ks chosen f n zero e h = absurd (true≢false (sym (ap (λ xs. list_any f (conditions_from n chosen xs)) (sym (drop_of_length-le ks (omega (arith, e)))) ∙ h)))
 from-found ks chosen f n (suc left) e h =

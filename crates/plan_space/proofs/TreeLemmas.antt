@@ -98,7 +98,7 @@ module _ {X : Type 0} where
       there : AreInOrder (o ∷ os) (x ∷ xs) → AreInOrder os xs
       there h = by h.0 h.1
 
-  -- and one that is not stands later
+  -- a first thing that is not the first of the list leaves the list to those behind it
   pub passes-first : (o : Option X) (os : List (Option X)) (x : X) (xs : List X) → ¬ (o ≡ Some x) → AreInOrder (o ∷ os) (x ∷ xs) ↔ AreInOrder (o ∷ os) xs
   passes-first o os x xs fails = (there, in-order-later (o ∷ os) x xs)
     where

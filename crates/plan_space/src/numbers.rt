@@ -21,7 +21,7 @@ impl Model for Numbers {
 }
 
 impl Numbers {
-    /// These pairs.
+    /// The list of some pairs.
     pub fn from_vec(items: Vec<(u64, u64)>) -> Numbers
         ensures { result ≡ items.items }
     {

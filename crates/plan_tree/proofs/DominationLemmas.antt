@@ -88,7 +88,7 @@ module _ (c : Contents) (q : Query) where
   nest-startups None o p i j h k l m s t = tt
   nest-startups (Some w) o p i j h k l m s t = (nest-replaced c q p o j i h k (record { startup = s; total = l }) (record { startup = t; total = m })).startup
 
-  -- and it dominates the other
+  -- a nested loop of plans that dominate the sides of another loop stands, and dominates that loop
   pub nest-dominates : (o p i j : Plan) → IsBuilt c q p → IsBuilt c q j → is_sort p ≡ false → is_sort j ≡ false → Dominates c q p o → Dominates c q j i → IsBuilt c q (nest o i) →
       IsBuilt c q (nest p j) × Dominates c q (nest p j) (nest o i)
   nest-dominates o p i j a b e f h k n = (

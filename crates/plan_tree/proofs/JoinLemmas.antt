@@ -49,7 +49,7 @@ join_operators_are test ks set none h g = ap operators (where-from test (either_
 some-left : (n m : ℕ) (a b x y z : Bool) → n < m → x ≡ nat_lt n m && a → y ≡ false → z ≡ nat_lt n m && (a && b) → (x || y) && not z ≡ a && not b
 some-left n m a b x y z lt e f g = grind (arith, common_steps, lt, e, f, g)
 
--- those of the clauses of a join that are no pair clauses of some keys
+-- the operators of the clauses of a join that are no pair clauses of some keys
 pub merge_operators_are : (ks : List Clause) (a b : RelSet) (s t : Set) (keys set none equal : List ℕ) → ((n : ℕ) → has a.0 n ≡ s n) → ((n : ℕ) → has b.0 n ≡ t n) →
     ((k : ℕ) → contains set k ≡ nat_lt k (length ks) && is_join (has a.0) (has b.0) (clause_at ks k)) → ((k : ℕ) → contains none k ≡ false) →
     ((k : ℕ) → contains equal k ≡ nat_lt k (length ks) && (is_join (has a.0) (has b.0) (clause_at ks k) && is_pair_of keys (clause_at ks k))) →

@@ -44,7 +44,7 @@ same-given (Some s) (Some t) a b f f' sets params =
     let param : s.param.0 ≡ t.param.0 = same_set s.param.0 t.param.0 params in
     ap₂ (λ (r p : ℕ). Some (record { relation = record { 0 = r }; param = record { 0 = p } })) rel param
 
--- so plans of the same set and parameterisation are given the same
+-- plans of the same set and parameterisation are given the same
 pub given-like : (p other : Plan) → IsLike p other → given_scan p ≡ given_scan other
 given-like p other h = same-given (given_scan p) (given_scan other) (set_of p) (set_of other) (fits p) (fits other) h.set h.param
 

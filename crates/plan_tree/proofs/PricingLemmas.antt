@@ -208,6 +208,6 @@ bitmap-costs c range t r p chosen used part exact same cut =
     numbers : numbers_from 0 (length t.clauses) chosen ≡ numbers_from 0 (length t.clauses) used
     numbers = numbers-same chosen used 0 (length t.clauses) (λ k low high. same k ∙ here-below k (length t.clauses) (used k) (omega (arith, high)))
 
--- and an AND
+-- what an AND of a bitmap tree stands for
 pub and-bits : (parts : Many) → bits (And parts) ≡ all_hold (bits_all parts.items.items)
 and-bits parts = search (rules, the_lemmas, rolls-And, fold-roll-BitTree, fold_out-BitTree, fold-roll-BitTrees, fold_out-BitTrees)

@@ -186,8 +186,8 @@ fn has_condition_among(
     has_some(classes, &bounds_and_tests(classes, &found))
 }
 
-/// Whether an index is an element: it is usable and has a condition among these clauses, which are those of the relation
-/// and of its parameterisation.
+/// Whether an index is an element: it is usable and has a condition among the clauses of the relation and of its
+/// parameterisation.
 fn is_index_element(
     cat: &Catalog,
     q: &Prepared,

@@ -88,7 +88,7 @@ gathered-none P fronts none = record {
   apart = λ i j d lt within. absurd (omega (arith, within));
 }
 
--- the same paths are those of other places, where these are no fewer and the others have no paths beyond
+-- paths that are gathered of some places are gathered of any that are the same places
 pub gathered-as : (P Q : Places) (fronts : Fronts) (paths : List Path) → ((t o : RelSet) → P t o → Q t o) → ((t o : RelSet) → Q t o → P t o) → AreGathered P fronts paths → AreGathered Q fronts paths
 gathered-as P Q fronts paths to from h = record {
   from = All-weaker (λ (x : Path). P x.set x.param × Contains (fronts x.set x.param) x) (λ (x : Path). Q x.set x.param × Contains (fronts x.set x.param) x) (λ x g. (to x.set x.param g.0, g.1)) paths h.from;
@@ -123,7 +123,7 @@ whole-first fronts all paths =
     back t o (inl h) = h
     back t o (inr h) = absurd (let lt = h.3 in omega (arith, lt))
 
--- those of one relation, by the number of the parameterisation
+-- the sets of one relation, by the number of the parameterisation
 pub given-none : (fronts : Fronts) (all n : ℕ) (paths : List Path) → AreGathered (IsBelow all n) fronts paths → AreGathered (IsBelowOr all n 1) fronts paths
 given-none fronts all n paths =
     gathered-as (IsBelow all n) (IsBelowOr all n 1) fronts paths (λ t o h. inl h) back

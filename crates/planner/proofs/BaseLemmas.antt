@@ -88,7 +88,7 @@ module _ (c : Contents) (q : Query) (r : RelNo) (p : RelSet) where
     scan-below (nest outer inner) of k is = absurd (no-join outer inner r.0 of.built.2.sides of.set_is)
     scan-below (merge keys outer inner) of k is = absurd (no-join outer inner r.0 of.built.2.sides of.set_is)
 
-    -- so its number is no greater than that of the set of all
+    -- the number of a scan's parameterisation is no greater than that of the set of all relations
     pub scan-most : (all : RelSet) → IsSameSet (has all.0) (all_of_query q) → (t : Plan) → IsPlanOf c q (one r.0) (has p.0) t → p.0 ≤ all.0
     scan-most all is_all t of = within-most p.0 all.0 (λ k is. is_all k ∙ lt-ltb k (width q) (scan-below t of k is))
 

@@ -35,7 +35,7 @@ module _ (c : Contents) (q : Query) where
   pub whole-estimate : (p : Path) → IsWhole c q p → IsEstimate p.rows
   whole-estimate p h = subst IsEstimate (sym h.numbers.rows) (plan-estimate c q p.tree)
 
-  -- they are those of the query
+  -- the rows of a path of all relations are those of the query
   pub whole-query : (p : Path) → IsWhole c q p → p.rows ≡ query_rows c q
   whole-query p h = let same : set_of p.tree ≡ all_of_query q = λ i k. h.plan.set_is k i in whole-rows p h ∙ ap (set_rows c q.range q.classes) same
 

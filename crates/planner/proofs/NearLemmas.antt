@@ -41,7 +41,7 @@ some-at f chosen (x ∷ ks) a h = by (λ g. some-at f chosen ks (a + 1) g) (chos
         (or_cases (f x.cond) (list_any f (conditions_from (a + 1) chosen ks)) g)
     by later false e g = more later g
 
--- and the other way round
+-- the clause of a number of a set passes a test: some condition of the set does
 at-some : (f : Cond → Bool) (chosen : ℕ → Bool) (ks : List Clause) (a n : ℕ) → n < length ks → chosen (a + n) ≡ true → f (clause_at ks n).cond ≡ true → list_any f (conditions_from a chosen ks) ≡ true
 at-some f chosen [] a n lt is h = absurd (omega (arith, lt))
 at-some f chosen (x ∷ ks) a zero lt is h = by (chosen a) (let same : a ≡ a + 0 = omega arith in ap chosen same ∙ is)

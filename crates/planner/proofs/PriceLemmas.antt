@@ -63,7 +63,7 @@ module _ (c : Contents) (q : Query) where
   pub is-finished : (t : Plan) → IsPlanOf c q (all_of_query q) empty t → IsFinished c q (finished c q t)
   is-finished t h = whole-finished t h (covers (keys_of c q t) (order_keys q.classes q.order)) refl
 
-  -- it is the plan itself where the keys are covered
+  -- a finished plan is the plan itself where the keys are covered
   pub covered-finished : (t : Plan) → covers (keys_of c q t) (order_keys q.classes q.order) ≡ true → finished c q t ≡ t
   covered-finished t e = ap (λ b. cond b t (sort (order_keys q.classes q.order) t)) e
 
@@ -125,7 +125,7 @@ module _ (c : Contents) (q : Query) (some : HaveRows c q) where
           cheap = subst (λ t. IsCheap t o) (sym covered) (record { total = found.suffices.total; startup = found.suffices.startup });
         }
 
-    -- so it is for each finished plan below the limit
+    -- some path's plan in the order asked for costs no more than a finished plan below the limit
     undercuts : (o : Plan) → IsFinished c q o → IsBelow c q asked.limit o → IsUndercut o
     undercuts (sort ks input) f a =
         let keys = order_keys q.classes q.order in
@@ -159,7 +159,7 @@ module _ (c : Contents) (q : Query) (some : HaveRows c q) where
         le_trans_lt : {x y l : ℕ} → x ≤ y → y < MOST_COST → MOST_COST ≤ l → x < l
         le_trans_lt h k m = omega (arith, h, k, m)
 
-    -- and the least of them, where its price is below the limit, is undercut by no admissible finished plan
+    -- the least of the paths' plans, where its price is below the limit, is undercut by no admissible finished plan
     pub least-best : (t : Plan) → IsPlanOf c q (all_of_query q) empty t → IsLeastOf c q paths t → finished_price c q t < asked.limit → IsBestPlan c q (finished c q t)
     least-best t of h below = record {
       finished = is-finished c q t of;

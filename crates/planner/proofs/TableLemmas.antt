@@ -53,7 +53,7 @@ module _ (c : Contents) (q : Query) where
       };
     }
 
-  -- so far the scans of a relation with parameterisations below a number were put, and nothing at other sets
+  -- the scans of a relation with parameterisations below a number were put, and nothing at other sets
   pub record IsRelationSoFar (old new : Table) (r : ℕ) (s : RelSet) (n : ℕ) : Type 0 where
     pub base : IsBase c q new
     pub scans : (p : RelSet) → p.0 < n → AreDominated c q is_plan (one r) (has p.0) (paths_at new s p)
@@ -81,7 +81,7 @@ module _ (c : Contents) (q : Query) where
             lower : (m k : ℕ) → m < k + 1 → ¬ (m ≡ k) → m < k
             lower m k below not = elim (cases_lt m k) [ inl h ↦ h | inr h ↦ absurd (not (omega (arith, below, h))) ]
 
-  -- so all of them were, where the number is past the set of all
+  -- all scans of a relation were put, where the number is past the set of all relations
   pub relation-all : (old new : Table) (r : RelNo) (s all : RelSet) (n : ℕ) → IsOverTables c q → IsSameSet (has s.0) (one r.0) → IsSameSet (has all.0) (all_of_query q) → all.0 < n → IsRelationSoFar old new r.0 s n → HaveScansOf c q (paths_at new) r.0
   relation-all old new r s all n over single is_all past h = record {
     dominated = λ t p alone. subst (λ (x : RelSet). AreDominated c q is_plan (one r.0) (has p.0) (paths_at new x p))
@@ -91,7 +91,7 @@ module _ (c : Contents) (q : Query) where
       each : (p : RelSet) → AreDominated c q is_plan (one r.0) (has p.0) (paths_at new s p)
       each p t of below u = let most = scan-most c q r p over all is_all t of in h.scans p (omega (arith, most, past)) t of below u
 
-  -- so far the scans of the relations below a number were put
+  -- the scans of the relations below a number were put
   pub record IsBaseSoFar (t : Table) (n : ℕ) : Type 0 where
     pub base : IsBase c q t
     pub scans : (r : ℕ) → r < n → HaveScansOf c q (paths_at t) r

@@ -62,7 +62,7 @@ fn named_with_any(cat: &Catalog, q: &Prepared, r: RelNo) -> RelSet
 }
 
 /// The relations whose rows some scan of a relation is given, and perhaps more: those that its conjuncts name, and those
-/// that its pair clauses do.
+/// that its pair clauses name.
 pub(crate) fn relations_near(cat: &Catalog, q: &Prepared, r: RelNo) -> RelSet
     requires query { IsOverTables cat.now q.now }
     requires relation { r.0 < width q.now }

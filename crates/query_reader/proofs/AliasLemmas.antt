@@ -102,7 +102,7 @@ groups-named j i ((m, g) ∷ gs) words h is =
     next-named (with_group j g) (λ k. with_groups k (groups_after gs)) i (λ k. group-named j k g (before-words (words_of_group g) (words_of_groups gs) words.1) h)
     (λ k f. groups-named k i gs (after-words (words_of_group g) (words_of_groups gs) words.1) f) is
 
--- those of all groups are
+-- the aliases of all groups are names
 pub all-named : (j i : Joined) (g : Group) (gs : List (Mark × Group)) (rest : List Terminal) → AreNamed (words_of_group g ++ (words_of_groups gs ++ rest)) → HasNames j → with_groups j (g ∷ groups_after gs) ≡ Ok i → HasNames i
 all-named j i g gs rest words h is =
     next-named (with_group j g) (λ k. with_groups k (groups_after gs)) i (λ k. group-named j k g (before-words (words_of_group g) (words_of_groups gs ++ rest) words) h)

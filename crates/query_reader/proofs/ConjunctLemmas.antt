@@ -211,7 +211,7 @@ order-columns c range (z ∷ zs) h x i = ⊎_elim
     (λ (later : IsIn x (map (λ i. i.col) zs)). order-columns c range zs (all_from (λ (k : OrderItem). is_column_in c range k.col ≡ true) zs (λ k j. all_at (λ (k : OrderItem). is_column_in c range k.col ≡ true) (z ∷ zs) h k (inr j))) x later)
     i
 
--- and of relations below 16
+-- the columns of an order over the relations are of relations below 16
 pub order-near : (c : Contents) (range : Range) (items : List OrderItem) → length range ≤ 16 → All (λ (i : OrderItem). is_column_in c range i.col ≡ true) items → All (λ (i : OrderItem). i.col.rel.0 < 16) items
 order-near c range items few h = all_from (λ (i : OrderItem). i.col.rel.0 < 16) items
     (λ i j. let at = is-column-of c range i.col (all_at (λ (k : OrderItem). is_column_in c range k.col ≡ true) items h i j) in omega (arith, few, at.relation))

@@ -80,7 +80,7 @@ ok n = Ok n
 abbrev pub fails : Fault → Result ℕ Fault
 fails f = Err f
 
--- one that does not end so groups
+-- a SELECT that does not end with its window groups
 or-groups : (text : List ℕ) (tokens : List Token) (first : ℕ) (r : Result ℕ Fault) → first < length tokens → IsPartEnd IsWindowed text tokens first r → ¬ (r ≡ Ok (length tokens - 1)) →
     HaveSelectAt text tokens first ⊎ AreGrouped text (drop first tokens) → AreGrouped text (drop first tokens)
 or-groups text tokens first r within end other (inl has) = absurd (other (end-by-select text tokens first r within end has))

@@ -41,7 +41,7 @@ on-join first x more rest left n =
       words = n.words ∙ ap (λ (js : List Join). words_of_relation n.relation ++ t_key OnKey n.on_at ∷ (words_of_expr n.condition ++ (words_of_joins js ++ rest))) others;
     }
 
--- one without
+-- a join without a condition
 pub record CrossJoin (first : ℕ) (x : Join) (more : List Join) (rest left : List Terminal) : Type 0 where
   pub relation : Relation
   pub meant : (j : Joined) → with_join first j x ≡ with_relation j (source_of relation)

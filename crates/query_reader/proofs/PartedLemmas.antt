@@ -165,7 +165,7 @@ read-parted : (m : Result Bound Fault) (q : Query) → IsBoundParted m → IsBou
 read-parted (Ok b) q h is = subst (All HasParts) (sym (ap (λ (x : Query). x.where_all) is)) h
 read-parted (Err f) q h is = absurd is
 
--- so are those of a SELECT that is read
+-- the conjuncts of a SELECT that is read
 pub select-parted : (c : Contents) (text : List ℕ) (tokens : List Token) (first : ℕ) (r : Result Query Refusal) → first < length tokens → IsGrammatical text tokens first r →
     ((x : WindowedSelect) (start : Token) (later : List Token) → tokens ≡ start ∷ later → IsWhole text tokens → IsSelectAt text tokens first x → IsBoundAs (bound_part c start x) r) → IfOk r (λ q. All HasParts q.where_all)
 select-parted c text [] first r within g binds = absurd (omega (arith, within))

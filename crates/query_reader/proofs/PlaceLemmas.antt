@@ -56,7 +56,7 @@ part-to-end text tokens first end x within (e, w) at =
       limits = within;
     }
 
--- one whose end is found is a part
+-- a SELECT whose end is found is a part
 pub part-that-ends : (text : List ℕ) (tokens : List Token) (first end : ℕ) → AreWithinLimits (terminals text tokens) → EndsAt IsWindowed text tokens first end → HavePart text tokens first end
 part-that-ends text tokens first end within at =
     let (x, levels, words) = at.whole in

@@ -83,7 +83,7 @@ conveys-fault A T Says (Ok a) refusal.Memory f told is = absurd (cc (is))
 conveys-fault A T Says (Err g) (refusal.Fault h) f told is = cc (told, is)
 conveys-fault A T Says (Err g) refusal.Memory f told is = absurd (cc (is))
 
--- the same of a part that takes no memory
+-- the fault that a part without memory tells is that of what it means
 pub told-fault : {A : Type 0} (m : Result A Fault) (g f : Fault) → Err g ≡ m → refusal.Fault g ≡ refusal.Fault f → m ≡ Err f
 told-fault m g f is at = let same : g ≡ f = cc (at) in sym is ∙ ap (λ x. Err x) same
 
@@ -144,7 +144,7 @@ module _ (c : Contents) (range : Range) (joined : List Cond) (start : Token) (it
           all-kept : past_limit (joined ++ ws) ≡ None → meant ≡ Ok all
           all-kept kept = up-to-limits ∙ ap (λ o. limited start o all) kept
 
-  -- the same where all relations are in sight
+  -- what is meant over the relations, step by step, where all of them are in sight
   module _ (s : Sight) (look : s ≡ record { contents = c; range = range; first = 0 }) where
     pub conjuncts-wrong : (f : Fault) → conjuncts_written (visible_in s) (type_in s.contents s.range) w ≡ Err f → meant ≡ Err f
     conjuncts-wrong f wrong = conjuncts-stop f (subst (λ (x : Sight). conjuncts_written (visible_in x) (type_in x.contents x.range) w ≡ Err f) look wrong)

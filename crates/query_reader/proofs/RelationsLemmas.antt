@@ -82,7 +82,7 @@ relations-end c range k le = ap (relations_from c k) (nil_from_length (drop k ra
 
 -- columns picked from those of the relations
 module _ (pick : Scope → Scope) (parts : (xs ys : Scope) → pick (xs ++ ys) ≡ pick xs ++ pick ys) (empty : pick [] ≡ []) (s : Sight) where
-  -- those still to be looked at
+  -- the columns that are still to be looked at
   abbrev pub left : ℕ → List ColRef
   left k = columns_in_scope (pick (relations_from s.contents k (drop k s.range)))
 
@@ -147,7 +147,7 @@ under-none q c k ((t, alias) ∷ rs) other =
     under-none q c (k + 1) rs (λ i d lt. other (suc i) d (omega (arith, lt))))
 
 module _ (s : Sight) (q : List ℕ) where
-  -- those under the alias from a relation on
+  -- the columns under the alias from a relation on
   abbrev pub sought : ℕ → Scope
   sought k = under q (relations_from s.contents k (drop k s.range))
 

@@ -33,7 +33,7 @@ use Rattle.sql_grammar.specs.Terminals.{Terminal}
 use Rattle.query_reader.specs.Conveys.{Conveys, ReadsInto}
 use Rattle.query_reader.specs.From.{AreRelations, is_taken}
 
--- an answer of a step: what is meant, its fault, or want of memory
+-- an answer of a step: what is meant, its fault, or out of memory
 pub conveys-ok : {A T : Type 0} (Says : A → T → Type 0) (m : Result A Fault) (a : A) (v : T) → m ≡ Ok a → Says a v → Conveys Says m (Ok v)
 conveys-ok Says m a v is says = subst (λ x. Conveys Says x (Ok v)) (sym is) says
 

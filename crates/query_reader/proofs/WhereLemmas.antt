@@ -50,7 +50,7 @@ there (where_expr key e) rest left k ends is = record {
 }
 
 module _ (scope : Scope) (type_of : ColRef → SqlType) where
-  -- it is not
+  -- WHERE is not next
   pub no-condition : (w : Where) (rest old new : List Terminal) (es : Exprs) → es.items.items ≡ [] → new ≡ old → BeginsNot (t_key WhereKey) old → old ≡ words_of_where w ++ rest →
       Reads seen (conjuncts_written scope type_of w) rest (Ok es) new
   no-condition no_where rest old new es none left absent is = (ap (λ l. map cond l) none, left ∙ is)
@@ -74,7 +74,7 @@ module _ (scope : Scope) (type_of : ColRef → SqlType) where
       Reads seen (conjuncts_of_expr scope type_of e) rest r new
   condition-stopped e rest new f r told stop = stopped-by (meaning_of_expr scope type_of e) rest new new f r told stop
 
-  -- one that is read, and taken apart
+  -- an expression that is read, and taken apart
   pub condition-read : (e : Expr) (rest new : List Terminal) (x : ExprRead) (es : Exprs) → Reads cond (meaning_of_expr scope type_of e) rest (Ok x) new → conds es.items.items ≡ conjuncts_of (cond x) →
       Reads seen (conjuncts_of_expr scope type_of e) rest (Ok es) new
   condition-read e rest new x es told listed-parts = read-by (meaning_of_expr scope type_of e) rest new x es told listed-parts

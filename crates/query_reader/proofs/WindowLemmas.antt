@@ -25,7 +25,7 @@ pub most-there : (l : Limit) (rest old left : List Terminal) (k : Token) → end
 most-there no_limit rest old left k ends is took = let wrong = ap ends_limit (sym took ∙ is) ∙ ends in absurd (cc (wrong))
 most-there (most_rows p key n) rest old left k ends is took = record { offered = p; key = key; number = n; is = refl; words = ap (drop 1) (sym took ∙ is) }
 
--- it is not
+-- LIMIT is not next
 pub no-most : (l : Limit) (rest old new : List Terminal) → BeginsNot (t_key LimitKey) old → new ≡ old → old ≡ words_of_limit l ++ rest → (Ok None ≡ most_of l) × (new ≡ rest)
 no-most no_limit rest old new other same is = (refl, same ∙ is)
 no-most (most_rows p k n) rest old new other same is = absurd (other _ (k, is))
@@ -42,7 +42,7 @@ pub skipped-there : (o : Offset) (rest old left : List Terminal) (k : Token) →
 skipped-there no_offset rest old left k ends is took = let wrong = ap ends_window (sym took ∙ is) ∙ ends in absurd (cc (wrong))
 skipped-there (skipped_rows p key n) rest old left k ends is took = record { offered = p; key = key; number = n; is = refl; words = ap (drop 1) (sym took ∙ is) }
 
--- it is not
+-- OFFSET is not next
 pub no-skipped : (o : Offset) (rest old new : List Terminal) → BeginsNot (t_key OffsetKey) old → new ≡ old → old ≡ words_of_offset o ++ rest → (Ok None ≡ skipped_of o) × (new ≡ rest)
 no-skipped no_offset rest old new other same is = (refl, same ∙ is)
 no-skipped (skipped_rows p k n) rest old new other same is = absurd (other _ (k, is))

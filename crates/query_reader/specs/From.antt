@@ -57,11 +57,11 @@ abbrev pub alias_or : Option Spelled → Spelled → Spelled
 alias_or None table = table
 alias_or (Some alias) table = alias
 
--- a relation has this alias
+-- a relation has an alias
 abbrev pub is_taken : Range → List ℕ → Bool
 is_taken range alias = list_any (λ r. bytes_eq alias r.1) range
 
--- one more relation, of this table
+-- one more relation, of a table under an alias
 abbrev pub under_alias : Joined → TableNo → Spelled → Result Joined Fault
 under_alias j table alias = cond (is_taken j.range alias.bytes) (Err (fault_at S7 alias.token)) (Ok (record j { range = j.range ++ (table, alias.bytes) ∷ [] }))
 

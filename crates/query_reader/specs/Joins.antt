@@ -9,7 +9,7 @@ use Rattle.query_reader.specs.Ends.{ends_group}
 use Rattle.query_reader.specs.declared.written.Joining.{Joining}
 use Rattle.query_reader.specs.declared.written.Joining.TheVariants.{On, Cross}
 
--- a join with a condition is: its relation is left, then ON and its condition, then the other joins and what stands behind them
+-- a join with a condition is next: its relation is left, then ON and its condition, then the other joins and what stands behind
 pub record NextOn (js : List Join) (rest left : List Terminal) : Type 0 where
   pub inner : Inner
   pub join_at : Key
@@ -20,7 +20,7 @@ pub record NextOn (js : List Join) (rest left : List Terminal) : Type 0 where
   pub is : js ≡ join_on inner join_at relation on_at condition ∷ more
   pub words : left ≡ words_of_relation relation ++ t_key OnKey on_at ∷ (words_of_expr condition ++ (words_of_joins more ++ rest))
 
--- one without a condition is: its relation is left, then the others
+-- a join without a condition is next: its relation is left, then the other joins and what stands behind
 pub record NextCross (js : List Join) (rest left : List Terminal) : Type 0 where
   pub cross_at : Key
   pub join_at : Key

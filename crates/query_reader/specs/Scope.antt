@@ -54,19 +54,19 @@ also _ x = Many
 abbrev pub types_in : Sight → ColRef → SqlType
 types_in s = type_in s.contents s.range
 
--- these conditions are over those relations
+-- conditions are over the relations in which names are looked up
 abbrev pub AreConditionsOver : Sight → List Cond → Type 0
 AreConditionsOver s conditions = All (IsOver s.contents s.range) conditions
 
--- a column is one of those relations
+-- a column is one of the relations in which names are looked up
 abbrev pub IsSeenColumn : Sight → ColRef → Type 0
 IsSeenColumn s c = IsTrue (is_column_in s.contents s.range c)
 
--- this is the number of the visible relation under an alias
+-- a number is that of the visible relation under an alias
 abbrev pub IsRelationUnder : List ℕ → Sight → ℕ → Type 0
 IsRelationUnder alias s k = (k < length s.range) × (under alias (visible_in s) ≡ own_columns s k)
 
--- the one column of these, where there is one; there is no second one
+-- the one column of a scope, where there is one; there is no second one
 abbrev pub IsOnlyColumn : Scope → Option ColRef → Type 0
 IsOnlyColumn scope found = MatchOption found (scope ≡ []) (λ c. columns_in_scope scope ≡ c ∷ [])
 

@@ -144,8 +144,8 @@ fn over(
     })
 }
 
-/// The query that a SELECT means, or its first fault of binding: these items, with its FROM, its WHERE, its ORDER BY, its LIMIT
-/// and its OFFSET next, in a statement that begins at this token.
+/// The query that a SELECT means, or its first fault of binding: `items`, with its FROM, its WHERE, its ORDER BY, its LIMIT
+/// and its OFFSET next, in a statement that begins at `start`.
 pub fn bind(
     alloc: Global,
     cat: &Catalog,

@@ -123,7 +123,7 @@ fn also(found: Found, column: ColRef) -> Found
 }
 
 impl<'a> Relations<'a> {
-    /// These relations of which those from `first` on are visible.
+    /// The relations of a range, of which those from `first` on are visible.
     pub fn new(cat: &'a Catalog, range: &'a [(TableNo, Bytes)], first: usize) -> Relations<'a>
         requires { AreRelations cat.now range.now }
         ensures { result ≡ record { contents = cat.now; range = range.now; first = first } }
@@ -154,7 +154,7 @@ impl<'a> Relations<'a> {
         Some(ColRef { rel, col })
     }
 
-    /// That column, where the list shows it.
+    /// The column of a relation that has a name, where the list shows it.
     fn shown_in_relation(&self, number: usize, name: &[u8], select: &ColumnPlaces) -> Option<ColRef>
         requires { number < length self.now.range }
         ensures { IsOnlyColumn

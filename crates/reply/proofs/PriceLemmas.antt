@@ -18,7 +18,7 @@ use Rattle.plan_tree.proofs.RowsLemmas.{plan-estimate}
 use Rattle.plan_tree.proofs.WindowLemmas.{uncut-kept}
 
 module _ (c : Contents) (q : Query) (p : Path) (h : IsFinishedPath c q p) where
-  -- it is no scan that is given rows
+  -- a finished path is no scan that is given rows
   given-none : given_scan p.tree ≡ None
   given-none = given-like p.tree (nest p.tree p.tree) (record { set = λ k. sym (or_self (set_of p.tree k)); param = λ k. h.finished.param_is k })
 

@@ -116,7 +116,7 @@ module _ (c : Contents) (k : Kept) (q : Query) (t : Tuple) (bound : IsWellBound 
       let R : List ColRef → Type 0 = λ l. All (HasColumn (rows_at (world c k.stored) q t)) l in
       subst P (sym same) (subst R (sym selected) (λ i d lt. column_there (get_or q.select i d) (of i d lt)))
 
-  -- and their values are those at the tuple
+  -- the values of some columns are those at the tuple
   values_in : (xs : List ColRef) → All (IsColumnOf c q.range) xs → map (cell_of (rows_at (world c k.stored) q t)) xs ≡ map (value_at (world c k.stored) q t) xs
   values_in [] of = refl
   values_in (x ∷ xs) of =

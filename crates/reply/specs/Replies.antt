@@ -39,7 +39,7 @@ pub record Traces : Type 0 where
   pub fetched : ℕ
   pub looked : ℕ
 
--- these bytes held, so many rows fetched, so many looks
+-- the bytes held, the rows fetched and the looks, by their numbers
 abbrev pub traces : Option (List ℕ) → ℕ → ℕ → Traces
 traces held fetched looked = record { held = held; fetched = fetched; looked = looked }
 

@@ -22,7 +22,7 @@ pub(crate) struct Page {
 }
 
 impl Page {
-    /// These bytes are pending, and there is no line yet. The error means out of memory.
+    /// A page of which some bytes are pending, and no line is there yet. The error means out of memory.
     pub(crate) fn new(alloc: Global, bytes: &[u8]) -> Result<Page, Memory>
         ensures { IfOk result (λ page. page.pending.items ≡ bytes.now) }
     {

@@ -50,7 +50,7 @@ limit_text Depth = codes "limit depth"
 limit_text Candidates = codes "limit candidates"
 limit_text Queries = codes "limit queries"
 
--- the text of a fault before what it names: by its kind and the number of its record, 0 where no record is at fault
+-- the text of a fault before what it names: by its kind and the number of its record, 0 where no record is in error
 abbrev pub phrase : Code → ℕ → List ℕ
 phrase S1 rec = codes "syntax error"
 phrase S2 rec = codes "no table "
@@ -71,12 +71,12 @@ phrase S16 rec = codes "no admissible plan"
 phrase S17 rec = codes "invalid parameter"
 phrase S18 rec = codes "ungrouped column "
 
--- the word at fault as the text names it
+-- the word in error as the text names it
 abbrev pub naming_text : Naming → List ℕ → List ℕ
 naming_text Nothing word = []
 naming_text Small word = map to_ascii_lowercase word
 
--- the words of the script at fault
+-- the words of the script that are in error
 abbrev pub word_at : List ℕ → Fault → List ℕ
 word_at script f = take (f.to - f.from) (drop f.from script)
 
@@ -86,7 +86,7 @@ place_text Nowhere c f = []
 place_text Record c f = codes ", record " ++ decimal f.rec
 place_text Field c f = codes ", record " ++ (decimal f.rec ++ (codes " column " ++ name_at c f.table (column_at_fault f)))
 
--- where the fault is: nothing is said where no record is at fault
+-- where the fault is: nothing is said where no record is in error
 abbrev pub suffix : Contents → Fault → List ℕ
 suffix c f = if f.rec == 0 then [] else place_text (data_place_of f.code) c f
 

@@ -11,7 +11,7 @@ use Rattle.reply_text.specs.declared.tells.Place.TheVariants.{Nowhere, Record, F
 use Rattle.reply_text.specs.declared.tells.Naming.{Naming}
 use Rattle.reply_text.specs.declared.tells.Naming.TheVariants.{Nothing, Small}
 
--- the word at fault ends the text in small letters, of which an operator has none
+-- the word in error ends the text in small letters, of which an operator has none
 abbrev pub naming_of : Code → Naming
 naming_of S2 = Small
 naming_of S3 = Small
@@ -34,10 +34,10 @@ data_place_of (S15 Rows) = Record
 data_place_of (S15 Text) = Field
 data_place_of _ = Nowhere
 
--- the column at fault
+-- the column in error
 abbrev pub column_at_fault : Fault → ColNo
 column_at_fault f = record { 0 = f.col }
 
--- where a field of COPY data is at fault, the catalogue has its table and column
+-- where a field of COPY data is in error, the catalogue has its table and column
 abbrev pub IsFieldOf : Contents → Fault → Type 0
 IsFieldOf c f = data_place_of f.code ≡ Field → 0 < f.rec → IsTable c f.table × IsColumn c f.table (column_at_fault f)

@@ -6,7 +6,7 @@ ghost use Rattle.reply_text.specs.Texts.{count_line};
 use pg_base::Memory;
 use std::alloc::Global;
 
-/// The line of the number of rows, ended by LF: `(1 row)`, else `(n rows)`. The only error is want of memory.
+/// The line of the number of rows, ended by LF: `(1 row)`, else `(n rows)`. The only error is out of memory.
 pub fn count_line(alloc: Global, n: u64) -> Result<Vec<u8>, Memory>
     ensures { IfOk result (λ line. line.items ≡ count_line n) }
 {

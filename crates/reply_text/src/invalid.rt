@@ -6,7 +6,7 @@ ghost use Rattle.reply_text.specs.Texts.{invalid_line};
 use pg_base::Memory;
 use std::alloc::Global;
 
-/// The line of a block that is not what it is given for, with the reason, ended by LF. The only error is want of memory.
+/// The line of a block that is not what it is given for, with the reason, ended by LF. The only error is out of memory.
 pub fn invalid_line(alloc: Global, reason: &[u8]) -> Result<Vec<u8>, Memory>
     ensures { IfOk result (λ line. line.items ≡ invalid_line reason.now) }
 {

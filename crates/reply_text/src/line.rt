@@ -15,9 +15,9 @@ use itoa::Buffer;
 use pg_base::{ColNo, Failed, Fault, Sink, write_all};
 
 /// Writes the line of a fault of the script `text`: `ERROR`, the SQLSTATE code, the byte offset and the text, ended by LF.
-/// It takes no memory. At `Failed` the sink has a prefix of the line, and its count of faults rose.
+/// No memory is taken. At `Failed` the sink has a prefix of the line, and its count of faults rose.
 /// Of words that do not lie in the script the line has what the script has of them.
-/// Where a field of COPY data is at fault, the catalogue has its table and column.
+/// Where a field of COPY data is in error, the catalogue has its table and column.
 pub fn write_fault<E: Sink>(
     errors: &mut E,
     cat: &Catalog,
@@ -60,7 +60,7 @@ fn word(text: &[u8], from: usize, to: usize) -> &[u8]
     &text[from..to]
 }
 
-// The word at fault, where the text names it.
+// The word in error, where the text names it.
 fn write_word<E: Sink>(errors: &mut E, text: &[u8], fault: &Fault) -> Result<(), Failed>
     ensures ok { OnOk result (Appends (E.held errors.old) (E.held errors.new)
         (named_word text.now fault.now)) }

@@ -53,7 +53,7 @@ impl Lines {
 
     /// The line of a row that shows these values, from the left, ended by LF. NULL is `\N`, a whole number is decimal,
     /// a truth value is `t` or `f`, and a text is its bytes, quoted as CSV (RFC 4180) where it has a comma, a quote, CR
-    /// or LF, and where it is empty and alone. The only error is want of memory. Over a list of bytes the writer fails for
+    /// or LF, and where it is empty and alone. The only error is out of memory. Over a list of bytes the writer fails for
     /// that alone, since a list takes every byte and rows may differ in length; that this is so is no clause of `csv`.
     pub fn line(&mut self, values: &[&Value]) -> Result<&[u8], Memory>
         ensures { IfOk result (λ line. line.now ≡ row_line (map (λ v. v.now) values.now)) }

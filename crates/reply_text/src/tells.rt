@@ -5,7 +5,7 @@ ghost use Rattle.reply_text.specs.Tells.{naming_of, data_place_of};
 
 use pg_base::{Code, Limit};
 
-/// How a text names the word at fault.
+/// How a text names the word in error.
 #[derive(Clone, Copy, Debug, PartialEq, Eq)]
 pub(crate) enum Naming {
     /// Not at all.
@@ -14,7 +14,7 @@ pub(crate) enum Naming {
     Small,
 }
 
-/// What a text names of the COPY data at fault.
+/// What a text names of the COPY data in error.
 #[derive(Clone, Copy, Debug, PartialEq, Eq)]
 pub(crate) enum Place {
     /// Nothing.
@@ -25,7 +25,7 @@ pub(crate) enum Place {
     Field,
 }
 
-/// How the text of a fault names the word at fault.
+/// How the text of a fault names the word in error.
 pub(crate) fn how_named(code: Code) -> Naming
     ensures { result ≡ naming_of code }
 {

@@ -51,7 +51,7 @@ pub(crate) fn limit_words(limit: Limit) -> &'static [u8]
     }
 }
 
-/// What the text of a fault begins with: all of it up to what it names. `rec` is the number of the record at fault.
+/// What the text of a fault begins with: all of it up to what it names. `rec` is the number of the record in error.
 pub(crate) fn first_words(code: Code, rec: u32) -> &'static [u8]
     ensures { result.now ≡ phrase code rec }
 {

@@ -168,7 +168,7 @@ module _ (c : Contents) (q : Query) (r : RelNo) (p : RelSet) where
       let rest = clause-weights (is_local r.0 (has p.0)) [] q.classes.clauses 0 refl refl in
       omega (arith, both, none, rest)
 
-  -- so there is room for them
+  -- there is room for the arms of marked elements
   pub arms-fit : HasFewAtoms q → (es : List Element) (n : ℕ) (bs : List BitTree) → AreElements c q r.0 (has p.0) es → AllZip (IsLeastTree c q r p) (marked n (take MOST_ELEMENTS es)) bs → length (arms_of_all bs) ≤ MOST_ATOMS
   arms-fit few es n bs are z =
       let a = trees-few (marked n (take MOST_ELEMENTS es)) bs z in

@@ -33,7 +33,7 @@ module _ (c : Contents) (q : Query) (over : IsOverTables c q) (all : RelSet) (is
   most : (p : RelSet) → ((k : ℕ) → has p.0 k ≡ true → k < width q) → p.0 ≤ all.0
   most p h = within-most p.0 all.0 (λ k is. is_all k ∙ lt-ltb k (width q) (h k is))
 
-  -- so the number of their set is no greater than that of all
+  -- the number of the set of relations whose rows a scan is given is no greater than that of all
   pub index-most : (r : RelNo) (i : IndexNo) (backward : Bool) (p : RelSet) → IsIndexScan c q r i backward p → p.0 ≤ all.0
   index-most r i backward p scan = most p (λ k is.
       named-below r.0 (has_number (index_conditions c q.classes i r.0 (has p.0))) k

@@ -111,13 +111,13 @@ module _ (c : Contents) (q : Query) (r : RelNo) (p : RelSet) where
   pub put-index : (k : Kept) (i : IndexNo) (b : BitTree) (a : Arms) → element_in k ≡ by_index i → IsKept c q r p k b → (found : List IndexNo) → IsFilled a found → IsFilled a (found ++ arms_in b)
   put-index k i b a e h found f = subst (λ (is : List IndexNo). IsFilled a (found ++ is)) (sym (leaf-arms c q r p b i (h.least.element ∙ ap Some e))) (filled-none a found f)
 
-  -- those of a clause
+  -- the arms of a clause
   pub put-clause : (k : Kept) (n : ℕ) (b : BitTree) (xs : List Cond) (is : List IndexNo) → element_in k ≡ by_clause n → IsKept c q r p k b → arms_of (condition_at q n) ≡ xs → AllZip (IsLeastMatch c q r p) xs is → IsKept c q r p k (some_arm n is)
   put-clause k n b xs is e h arms z =
       kept-other c q r p k b (some_arm n is) h
       (subst (λ (x : Element). IsLeastTree c q r p x (some_arm n is)) (sym e) (clause-least c q r p n xs is (capped (together (parts_of_arms c q r p xs is))) arms (record { least = z; part = refl })))
 
-  -- those of one tree
+  -- the arms of one tree
   pub put-one : (b : BitTree) (a d : Arms) → ((found : List IndexNo) → IsFilled a found → IsFilled d (found ++ arms_in b)) → (found : List IndexNo) → IsFilled a found → IsFilled d (found ++ arms_of_all (b ∷ []))
   put-one b a d h found f = subst (λ (is : List IndexNo). IsFilled d (found ++ is)) (sym (append-nil (arms_in b))) (h found f)
 

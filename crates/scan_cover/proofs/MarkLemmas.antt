@@ -8,7 +8,7 @@ use Rattle.std.proofs.lemmas.List.Folds.{list_any-append}
 use Rattle.plan_check.specs.Plains.{mask_of}
 use Rattle.bitmap_scan.specs.Chosen.{marked}
 
--- so much of a list was looked at, and this was marked
+-- the first items of a list were looked at, and some of them were marked
 pub record IsSplit {X : Type 0} (mask : ℕ) (xs : List X) (left n : ℕ) (seen : List X) : Type 0 where
   pub is : seen ++ marked left (drop n xs) ≡ marked mask xs
   pub few : length seen ≤ n
@@ -34,7 +34,7 @@ module _ {X : Type 0} where
   pub split-all : (mask : ℕ) (xs : List X) (left n : ℕ) (seen : List X) → length xs ≤ n → IsSplit mask xs left n seen → seen ≡ marked mask xs
   split-all mask xs left n seen le h = sym (append-nil seen) ∙ ap (λ (ys : List X). seen ++ marked left ys) (sym (drop_of_length-le xs le)) ∙ h.is
 
-  -- that some of them have a property, with one more
+  -- whether some of the marked items have a property, with one more
   pub any-more : (f : X → Bool) (b : Bool) (x : X) (seen : List X) → list_any f (seen ++ cond b (x ∷ []) []) ≡ list_any f seen || (b && f x)
   any-more f true x seen = list_any-append f seen (x ∷ []) ∙ ap (λ (t : Bool). list_any f seen || t) (or-false (f x))
     where

@@ -136,7 +136,7 @@ module _ (c : Contents) (q : Query) (r : RelNo) (p : RelSet) where
   used-together ks bs used z e n =
       e n ∙ inside n (length q.classes.clauses) (list_any (λ (k : Kept). contains k.used n) ks) (within-all ks bs n z) ∙ used-all ks bs n z ∙ combined-uses bs n
 
-  -- and their parts
+  -- some elements together: their parts
   combined-part : (bs : List BitTree) → capped (together (parts_of_all c q r p (trees_of bs))) ≡ capped (part_of c q r p (combined bs))
   combined-part [] = refl
   combined-part (b ∷ []) = one-part (part_of c q r p b)
@@ -190,7 +190,7 @@ module _ (c : Contents) (q : Query) (r : RelNo) (p : RelSet) where
   combined-elements (x ∷ (y ∷ es)) (b ∷ []) z = absurd z.1
   combined-elements (x ∷ es) (b ∷ (d ∷ bs)) z = trees-elements (x ∷ es) (b ∷ (d ∷ bs)) z
 
--- and its arms
+-- the arms of an AND
 all-arms : (bs : List BitTree) → arms_in_all (trees_of bs) ≡ arms_of_all bs
 all-arms [] = refl
 all-arms (b ∷ bs) = ap (λ (is : List IndexNo). arms_in b ++ is) (all-arms bs)

@@ -65,7 +65,7 @@ module _ (c : Contents) (q : Query) (t : Certificate) where
           each p.0 (omega (arith, lt, le)) i only backward built;
     }
 
-  -- and all relations
+  -- the relations up to the width are all that plain scans read
   pub plain-served : (n : ℕ) → width q ≤ n → ((r : ℕ) → r < n → IsRelationServed c q t (record { 0 = r })) → ArePlainScansServed c q t
   plain-served n le each (seq r) scan plain built = (each r.0 (omega (arith, built, le))).in_order built
   plain-served n le each (index r i backward p) scan plain built = let lt = built.relation in (each r.0 (omega (arith, lt, le))).by_index p i false backward built

@@ -106,7 +106,7 @@ module _ (w : World) (q : Query) (o : Tuple) (p : Planned) (r : RelNo) (s : RelS
         let f : given_looks w q s ≡ given_looks w q (param_set (plan p)) = ap (given_looks w q) pe in
         omega (arith, most, f)
 
-  -- and where it looks at the entries of a bitmap's tree
+  -- what is looked at, where the start looks at the entries of a bitmap's tree
   module _ (rel : RelNo) (param : RelSet) (t : Bits) (is : p ≡ Bitmap rel param t) where
     tree_is : tree_looks w q r s o (bits t) + given_looks w q s ≡ looks w q (plan p) o
     tree_is =

@@ -17,7 +17,7 @@ moved P c c' s s' r r' es es' rows rows' ce se re ee we x =
     (subst (λ (a : List Cond). P c s r a rows') (sym ee)
     (subst (λ (a : List Values). P c s r es a) (sym we) x))))
 
--- and tests and an index beside these
+-- the catalogue, the relations, the relation, conditions and rows, with tests and an index beside these
 pub moved_index : (P : Contents → Range → RelNo → List Cond → List Values → List Cond → Index → Type 0) (c c' : Contents) (s s' : Range) (r r' : RelNo) (es es' : List Cond) (rows rows' : List Values) (ts ts' : List Cond) (d d' : Index)
     → c' ≡ c → s' ≡ s → r' ≡ r → es' ≡ es → rows' ≡ rows → ts' ≡ ts → d' ≡ d → P c s r es rows ts d → P c' s' r' es' rows' ts' d'
 moved_index P c c' s s' r r' es es' rows rows' ts ts' d d' ce se re ee we te de x =

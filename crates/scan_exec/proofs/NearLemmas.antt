@@ -149,7 +149,7 @@ module _ (c : Contents) (k : Kept) (q : Query) (r : RelNo) (p : RelSet) (outer :
       by_own true b e h = h
       by_own false b e h = absurd (true≢false (sym e))
 
-  -- so at a row of the relation
+  -- at a row of the relation a condition can be tested
   pub testable_at : (n : ℕ) → n < length (rows_of_relation w q r) → (e : Cond) → Near e → IsTestable c q.range r.0 (is_within (row n)) g e
   testable_at n within e is = record {
     columns = weaker-each near (binds_at c q.range r.0 (is_within (row n)) g)

@@ -145,7 +145,7 @@ module _ (c : Contents) (k : Kept) (q : Query) (r : RelNo) (p : RelSet) (outer :
     pub at_entries : (e : Entry) → IsIn e (entries w i) → IsEntryAt d rows e
     at_entries e j = all_at (IsEntryAt d rows) (entries_over d rows) (entries_at d rows) e (subst (IsIn e) entries_are j)
 
-    -- and what is built of it is over them
+    -- what is built of the index is over the relation's rows
     pub built_is : (b : Built) → slice_get k.built i.0 ≡ Some b → b ≡ built_of d rows
     built_is b is =
         let e : Some b ≡ Some (built_of d (stored_at w d.table).rows) = sym is ∙ built-at c k at.store i on.made in

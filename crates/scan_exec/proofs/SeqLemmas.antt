@@ -64,7 +64,7 @@ module _ (r : ℕ) (given : Given) (es : List Cond) (rows : List Values) where
       onward = onward_by old (rows_from r given es rows (n + 1)) (fetched_at r given es rows n) f g 0 0 at_row (test_is row b read e ∙ fails) h 0 cost refl;
     }
 
-    -- one that passes
+    -- a row that passes
     module _ (row : Values) (b : Bool) (h : ℕ) (read : slice_get rows n ≡ Some row) (e : b ≡ passes_row r given es row) (passes : b ≡ true) (cost : h ≡ g + 1) where
       pub seq_row : Some n ≡ option_map (λ (x : Coming). x.row) (find is_given old)
       seq_row = ap (option_map (λ (x : Coming). x.row)) (sym (found_here old (rows_from r given es rows (n + 1)) (fetched_at r given es rows n) f g 0 0 at_row (test_is row b read e ∙ passes)))

@@ -77,7 +77,7 @@ module _ (r : ℕ) (given : Given) (es : List Cond) (rows : List Values) where
     abbrev rest : List Coming
     rest = map (entry_at r given tests es d rows) left
 
-    -- it fails the tests
+    -- an entry fails the tests
     pub entry_fails : passes_entry r given tests d e ≡ false → IsOnward old rest f g s u
     entry_fails fails =
         let none : g ≡ g + 0 = omega arith in

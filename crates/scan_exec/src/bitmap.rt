@@ -195,7 +195,7 @@ fn arm_list(arm: &Expr) -> &[Expr]
     }
 }
 
-/// These parts, each lent. The error means out of memory.
+/// The parts of an arm, each lent. The error means out of memory.
 fn parts_of(alloc: Global, arm: &Expr) -> Result<Vec<&Expr>, Memory>
     ensures { IfOk result (λ v. lent_conditions v.items ≡ arm_parts (view.cond arm.now)) }
 {

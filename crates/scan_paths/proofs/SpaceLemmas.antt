@@ -69,7 +69,7 @@ module _ (c : Contents) (q : Query) (r : RelNo) (i : IndexNo) (backward : Bool) 
   no-bitmap false = refl
   no-bitmap true = refl
 
--- so a join reads more than one relation
+-- a join reads more than one relation
 pub no-join : (outer inner : Plan) (r : ℕ) → AreSides outer inner → IsSameSet (λ k. set_of outer k || set_of inner k) (one r) → ⊥
 no-join outer inner r sides same =
     let o = reads-some outer in

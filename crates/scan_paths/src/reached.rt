@@ -94,7 +94,7 @@ fn each_reached(
 }
 
 /// The indexes of a relation's table, each with the relations whose rows a scan by it may be given, whatever conditions it has.
-/// It is found once for a relation, so that a scan that cannot be is not looked for. The error means out of memory.
+/// Found once for a relation, so that a scan that cannot be is not looked for. The error means out of memory.
 pub fn indexes_reached(
     alloc: Global,
     cat: &Catalog,

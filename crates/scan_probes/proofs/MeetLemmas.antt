@@ -122,7 +122,7 @@ module _ (r : ℕ) (k : IndexKey) (given : Given) where
     fixes (any_of cs) h = absurd (true≢false (sym h))
     fixes (negation c) h = absurd (true≢false (sym h))
 
-    -- it stands on the key's column
+    -- a bound stands on the key's column
     module _ (type_of : ColRef → SqlType) (key : IsOfFamily (key_family k) (some_value (type_of (column_of r k.col)))) where
       sample : ColNo → Value
       sample c = some_value (type_of (column_of r c))

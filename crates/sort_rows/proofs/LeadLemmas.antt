@@ -211,7 +211,7 @@ values_greater c v w is =
     (column_total c.family c.descending c.nulls_first).antisymm v w
     ∙ ap ordering_reverse (values_less c w v (int_cmp_total.antisymm (lead_of c w) (lead_of c v) ∙ ap ordering_reverse is))
 
--- so the leads may be asked first
+-- the leads of two values may be asked before the values
 asked_first : (c : SortColumn) (v w : Value) (rest o : Ordering) → int_cmp (lead_of c v) (lead_of c w) ≡ o → ordering_then o (ordering_then (values_order c v w) rest) ≡ ordering_then (values_order c v w) rest
 asked_first c v w rest Less is = sym (ap (λ p. ordering_then p rest) (values_less c v w is))
 asked_first c v w rest Equal is = refl

@@ -107,7 +107,7 @@ module _ (w : World) (q : Query) (set : RelSet) (row : List Tid) where
       let there : r ≡ row_at w q (tuple_of q set row) s.column.rel = sym (get_or_from_slice_get rows s.place r [] at) ∙ ap (λ n. slice_index_or rows n []) is.place ∙ are.each s.column.rel.0 is.inside in
       sym (ap (λ (l : Values). slice_index_or l s.column.col.0 Null) (sym there) ∙ get_or_from_slice_get r s.column.col.0 v Null found)
 
-  -- it is there
+  -- the place of a column's relation is one of the rows at hand
   pub place_within : (rows : List Values) (s : SortColumn) → set.0 < 2 ^ 16 → AreRowsAt w q set row rows → IsSortColumn w.contents q (has set.0) s → s.place < length rows
   place_within rows s few are is = omega (arith, is.place, are.count, rank-below (has set.0) s.column.rel.0 16 (has-below set.0 s.column.rel.0 few is.inside) is.inside)
 

@@ -17,11 +17,11 @@ use Rattle.sql_grammar.proofs.Forest.{words_of_parts, IsRule}
 pub windowed-words : (q y l o e x : List Terminal) → ((q ++ (y ++ (l ++ o))) ++ e) ++ x ≡ q ++ (y ++ (l ++ (o ++ (e ++ x))))
 windowed-words q y l o e x = simp append_assoc
 
--- those of one that ends a statement
+-- the words of a SELECT with its order and its window that ends a statement, and of what follows
 select-words : (q y l o e x : List Terminal) → (q ++ (y ++ ((l ++ o) ++ e))) ++ x ≡ q ++ (y ++ (l ++ (o ++ (e ++ x))))
 select-words q y l o e x = simp append_assoc
 
--- those of ADVISE, from its first candidate on
+-- the words of ADVISE, from its first candidate on, and of what follows
 advise-words : (c cs x xs e w : List Terminal) (m : Terminal) → (c ++ (cs ++ m ∷ (x ++ (xs ++ e)))) ++ w ≡ c ++ ((cs ++ m ∷ []) ++ (x ++ (xs ++ (e ++ w))))
 advise-words c cs x xs e w m = simp append_assoc
 

@@ -6,7 +6,7 @@ use Rattle.sql_grammar.specs.Terminals.{Terminal}
 pub on-words : (a c ns os js x : List Terminal) (on : Terminal) → ((a ++ on ∷ ((c ++ ns) ++ os)) ++ js) ++ x ≡ a ++ on ∷ (c ++ (ns ++ (os ++ (js ++ x))))
 on-words a c ns os js x on = simp append_assoc
 
--- those of a SELECT, from its list on, and of what follows
+-- the words of a SELECT, from its list on, and of what follows
 pub select-words : (o os a js gs w x : List Terminal) (from n : Terminal) →
     (o ++ (os ++ from ∷ n ∷ ((a ++ js) ++ (gs ++ w)))) ++ x ≡ o ++ (os ++ from ∷ n ∷ (a ++ (js ++ (gs ++ (w ++ x)))))
 select-words o os a js gs w x from n = simp append_assoc

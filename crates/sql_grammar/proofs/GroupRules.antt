@@ -85,12 +85,12 @@ next-words a js gs w ts x = simp append_assoc
 pub list-words : (o os g gs w x : List Terminal) (f : Terminal) → (o ++ (os ++ f ∷ (g ++ (gs ++ w)))) ++ x ≡ o ++ (os ++ f ∷ (g ++ (gs ++ (w ++ x))))
 list-words o os g gs w x f = simp append_assoc
 
--- those of a call and of what stands behind it up to the end
+-- the words of a call, of what stands behind it up to the end, and of what follows
 call-words : (a is al js gs w b y e x : List Terminal) (c f n : Terminal) →
     (a ++ c ∷ (is ++ f ∷ n ∷ (al ++ (js ++ (gs ++ (w ++ (b ++ (y ++ e)))))))) ++ x ≡ a ++ c ∷ ((is ++ f ∷ []) ++ n ∷ (al ++ (js ++ (gs ++ (w ++ (b ++ (y ++ (e ++ x))))))))
 call-words a is al js gs w b y e x c f n = simp append_assoc
 
--- those of GROUP BY behind its first column's name
+-- the words of GROUP BY behind its first column's name, and of what follows
 columns-words : (ts cs y e x : List Terminal) → ((ts ++ cs) ++ (y ++ e)) ++ x ≡ ts ++ (cs ++ (y ++ (e ++ x)))
 columns-words ts cs y e x = simp append_assoc
 

@@ -187,7 +187,7 @@ one_sorted p q a b x y h k e =
     let (order, rest) = one_order a b x y h k more in
     (first, order, rest)
 
--- and with its window
+-- a SELECT with its order and its window
 one_rest : (p q : Select) (a b : OrderBy) (v w : Window) (x y : List Terminal) → ends_windowed x ≡ true → ends_windowed y ≡ true →
     words_of_select p ++ (words_of_order a ++ (words_of_window v ++ x)) ≡ words_of_select q ++ (words_of_order b ++ (words_of_window w ++ y)) → (p ≡ q) × (a ≡ b) × (v ≡ w) × (x ≡ y)
 one_rest p q a b v w x y h k e =

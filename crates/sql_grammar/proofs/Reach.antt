@@ -115,7 +115,7 @@ module _ (start : List Item) (Of : Production) (known : Begins start Of) where
   pub whole-at : (ts : List Terminal) (m : List Item) → run_of MOST_LEVELS ts start ≡ Some m → may_end m ≡ true → Of MOST_LEVELS ts
   whole-at ts m run ends = let (g, is) = ended MOST_LEVELS start m ts (omega (arith, known.flat)) run ends in known.whole MOST_LEVELS ts g is
 
-  -- why the walk stops is why the terminal is at fault
+  -- why the walk stops is why the terminal is in error
   at-fault : (ts : List Terminal) (t : Terminal) (m : List Item) (code : Code) → run_of MOST_LEVELS ts start ≡ Some m → StopsBy code t m → IsAtFault Of ts t code
   at-fault ts t m S1 run (stuck, open') = excluded ts t m run stuck
   at-fault ts t m (S15 Depth) run (stuck, (n, deeper)) = (

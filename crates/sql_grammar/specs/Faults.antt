@@ -53,7 +53,7 @@ limit_of (t_name n) = cond (nat_le (length (bytes_of n)) MOST_NAME_BYTES) None (
 limit_of (t_quoted q) = cond (nat_le (length q.value) MOST_TEXT_BYTES) None (Some Text)
 limit_of _ = None
 
--- none is past a limit
+-- no terminal is past a limit
 abbrev pub AreWithinLimits : List Terminal → Type 0
 AreWithinLimits ts = All (λ t. limit_of t ≡ None) ts
 
@@ -61,20 +61,20 @@ AreWithinLimits ts = All (λ t. limit_of t ≡ None) ts
 abbrev pub terminals : List ℕ → List Token → List Terminal
 terminals text tokens = map (terminal_of text) tokens
 
--- why a terminal is at fault after others with which the production begins:
--- it never goes on so; it opens a level too many; it is awaited, and past a limit
+-- why a terminal is in error after others with which the production begins: the production never goes on with it; it opens
+-- a level too many; it is awaited, and past a limit
 abbrev pub IsAtFault : Production → List Terminal → Terminal → Code → Type 0
 IsAtFault Of before t S1 = (limit : ℕ) → ¬ IsPrefix Of limit (before ++ t ∷ [])
 IsAtFault Of before t (S15 Depth) = ¬ IsPrefix Of MOST_LEVELS (before ++ t ∷ []) × IsPrefix Of (MOST_LEVELS + 1) (before ++ t ∷ [])
 IsAtFault Of before t (S15 limit) = IsPrefix Of MOST_LEVELS (before ++ t ∷ []) × (limit_of t ≡ Some limit)
 IsAtFault Of before t _ = ⊥
 
--- where the words at fault end: a syntax fault names none
+-- where the words that a fault names end: a syntax fault names none
 abbrev pub fault_end : Code → Token → ℕ
 fault_end S1 token = token.start
 fault_end _ token = token.end
 
--- the fault of this kind at this token
+-- the fault of a kind at a token
 abbrev pub fault_at : Code → Token → Fault
 fault_at code token = words_fault code token.start (fault_end code token)
 

@@ -11,14 +11,14 @@ abbrev pub depth_of : List Item → ℕ
 depth_of [] = 0
 depth_of (i ∷ s) = level_of i + depth_of s
 
--- a level opens with these items
+-- a level opens with some items
 abbrev pub opens : List Item → Bool
 opens [] = false
 opens (NotEnds ∷ s) = true
 opens (Closes ∷ s) = true
 opens (i ∷ s) = opens s
 
--- these items on top, within the limit of levels
+-- a stack with some items on top, within the limit of levels
 abbrev pub pushed : ℕ → List Item → List Item → Option (List Item)
 pushed limit is s = cond (opens is) (cond (nat_le (depth_of (is ++ s)) limit) (Some (is ++ s)) None) (Some (is ++ s))
 
@@ -38,12 +38,12 @@ abbrev pub and_then : Option (List Item) → (List Item → Option (List Item)) 
 and_then None f = None
 and_then (Some s) f = f s
 
--- the stack after these tokens
+-- the stack after some tokens
 abbrev pub run_of : ℕ → List Terminal → List Item → Option (List Item)
 run_of limit [] s = Some s
 run_of limit (t ∷ ts) s = and_then (step_of limit (class_of t) s) (run_of limit ts)
 
--- nothing need come
+-- after a stack nothing need come
 abbrev pub may_end : List Item → Bool
 may_end [] = true
 may_end (i ∷ s) = is_optional i && may_end s
@@ -53,7 +53,7 @@ abbrev pub takes_then : Option (List Item) → (List Item → Bool) → Bool
 takes_then None f = false
 takes_then (Some s) f = f s
 
--- these tokens are taken to an end
+-- some tokens are taken from a stack, and then nothing need come
 abbrev pub takes_all : ℕ → List Terminal → List Item → Bool
 takes_all limit [] s = may_end s
 takes_all limit (t ∷ ts) s = takes_then (step_of limit (class_of t) s) (takes_all limit ts)
@@ -63,7 +63,7 @@ abbrev pub Fits : ℕ → List Item → Type 0
 Fits base [] = Unit {0}
 Fits base (i ∷ s) = (room_of i + length s ≤ base + 3 * depth_of s) × Fits base s
 
--- nothing is left
+-- nothing is left on a stack
 abbrev pub is_empty : List Item → Bool
 is_empty [] = true
 is_empty (_ ∷ _) = false

@@ -1,5 +1,4 @@
--- The statements, as they are written, each word with its token: a type for each production, a case for each spelling that
--- it allows
+-- The statements, as they are written, each word with its token: a type for each production, a case for each spelling of it
 -- (PostgreSQL manual, chapters SQL Syntax and SQL Commands, cut down to this program's statements).
 use Rattle.std.specs.Prelude.{Bool, true, false, ◌||◌, List, [], ◌∷◌}
 use Rattle.sql_lex.specs.declared.tokens.Token.{Token}
@@ -221,7 +220,7 @@ abbrev pub is_call : GroupedItem → Bool
 is_call (plain_item _) = false
 is_call (call _ _ _ _) = true
 
--- one of these is
+-- one of some items is a call
 abbrev pub has_call : List (Mark × GroupedItem) → Bool
 has_call [] = false
 has_call ((_, i) ∷ is) = is_call i || has_call is
@@ -231,7 +230,7 @@ abbrev pub is_written : GroupBy → Bool
 is_written no_group_by = false
 is_written (group_by _ _ _ _) = true
 
--- so it is
+-- a Boolean as a condition
 abbrev pub Holds : Bool → Type 0
 Holds true = Unit {0}
 Holds false = ⊥

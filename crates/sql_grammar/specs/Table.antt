@@ -265,7 +265,7 @@ room_of MaybeGroup = 4
 room_of MoreGroupColumns = 3
 room_of _ = 1
 
--- it takes the word that ends a statement
+-- an item takes the word that ends a statement
 abbrev pub takes_end : Item → Bool
 takes_end Whole = true
 takes_end Ends = true

@@ -27,7 +27,7 @@ abbrev pub ends_operand : List Terminal → Bool
 ends_operand (t_mark Dot _ ∷ _) = false
 ends_operand _ = true
 
--- it goes on no atom: it is no dot, IS, NOT, IN, BETWEEN or operator
+-- the next word, where there is one, goes on no atom before it: it is no dot, IS, NOT, IN, BETWEEN or operator
 abbrev pub ends_atom : List Terminal → Bool
 ends_atom (t_mark Dot _ ∷ _) = false
 ends_atom (t_key Not _ ∷ _) = false
@@ -37,7 +37,7 @@ ends_atom (t_key Is _ ∷ _) = false
 ends_atom (t_operator _ ∷ _) = false
 ends_atom _ = true
 
--- it goes on no conjunction: it is no dot, IS, NOT, IN, BETWEEN, operator or AND
+-- the next word, where there is one, goes on no conjunction before it: it is no dot, IS, NOT, IN, BETWEEN, operator or AND
 abbrev pub ends_conj : List Terminal → Bool
 ends_conj (t_mark Dot _ ∷ _) = false
 ends_conj (t_key Not _ ∷ _) = false
@@ -112,7 +112,7 @@ HaveTheirTokens words = (text : List ℕ) (ts : List Token) → words ≡ termin
 abbrev pub IsOneAhead : {Tree : Type 0} → (Tree → List Terminal) → (List Terminal → Bool) → Type 0
 IsOneAhead {Tree} words ends = (a b : Tree) (x y : List Terminal) → ends x ≡ true → ends y ≡ true → words a ++ x ≡ words b ++ y → (a ≡ b) × (x ≡ y)
 
--- where tokens begin with the words of a tree, within the limits, and the next word does not go on, the part's end is told there
+-- where tokens begin with the words of a tree, within the limits, and the next word does not go on, the part's end is there
 abbrev pub HasItsEnd : {Tree : Type 0} → Production → (List Terminal → Bool) → (Tree → List Terminal) → (Tree → ℕ) → Type 0
 HasItsEnd {Tree} Of ends words levels =
     (a : Tree) (next : Terminal) (x : List Terminal) (text : List ℕ) (ts : List Token) (first : ℕ) (r : Result ℕ Fault) → terminals text (drop first ts) ≡ words a ++ next ∷ x →

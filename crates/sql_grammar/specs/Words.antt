@@ -366,12 +366,12 @@ abbrev mutual
   levels_of_ands no_and = 0
   levels_of_ands (and_neg _ n ns) = max (levels_of_neg n) (levels_of_ands ns)
 
-  -- a NOT opens one
+  -- a NOT opens a level
   pub levels_of_neg : Neg → ℕ
   levels_of_neg (negated _ n) = levels_of_neg n + 1
   levels_of_neg (plain a) = levels_of_atom a
 
-  -- a `(` opens one; the NOT of IS NOT NULL opens none
+  -- a `(` opens a level; the NOT of IS NOT NULL opens none
   pub levels_of_atom : Atom → ℕ
   levels_of_atom (parens _ e _) = levels_of_expr e + 1
   levels_of_atom (compare _ _ _) = 0
@@ -382,74 +382,74 @@ abbrev mutual
   levels_of_atom (column_alone _) = 0
   levels_of_atom (constant_alone _ _) = 0
 
--- those of WHERE
+-- the levels of WHERE
 abbrev pub levels_of_where : Where → ℕ
 levels_of_where no_where = 0
 levels_of_where (where_expr _ e) = levels_of_expr e
 
--- those of a join's condition, which are counted from 0 for each
+-- the levels of a join's condition, which are counted from 0 for each join
 abbrev pub levels_of_join : Join → ℕ
 levels_of_join (join_on _ _ _ _ e) = levels_of_expr e
 levels_of_join (cross_join _ _ _) = 0
 
--- the most of some joins
+-- the most levels of some joins
 abbrev pub levels_of_joins : List Join → ℕ
 levels_of_joins [] = 0
 levels_of_joins (j ∷ js) = max (levels_of_join j) (levels_of_joins js)
 
--- those of a relation and what is joined to it
+-- the levels of a relation and what is joined to it: the most of the joins
 abbrev pub levels_of_group : Group → ℕ
 levels_of_group (group_of _ js) = levels_of_joins js
 
--- the most of further ones
+-- the most levels of further relations of FROM, each with what is joined to it
 abbrev pub levels_of_groups : List (Token × Group) → ℕ
 levels_of_groups [] = 0
 levels_of_groups ((_, g) ∷ gs) = max (levels_of_group g) (levels_of_groups gs)
 
--- those of a SELECT: the most of its conditions
+-- the levels of a SELECT: the most of its conditions
 abbrev pub levels_of_select : SelectTree → ℕ
 levels_of_select (select_from _ _ _ _ g gs w) = max (levels_of_group g) (max (levels_of_groups gs) (levels_of_where w))
 
--- those of a SELECT with its order and its window
+-- the levels of a SELECT with its order and its window
 abbrev pub levels_of_windowed : WindowedSelect → ℕ
 levels_of_windowed (windowed_select q _ _) = levels_of_select q
 
--- those of a SELECT with calls or GROUP BY
+-- the levels of a SELECT with calls or GROUP BY
 abbrev pub levels_of_grouped : GroupedSelect → ℕ
 levels_of_grouped (distinct_select _ _ _ _ _ g gs w _ _) = max (levels_of_group g) (max (levels_of_groups gs) (levels_of_where w))
 levels_of_grouped (grouped_select _ _ _ g gs w _ _ _ _) = max (levels_of_group g) (max (levels_of_groups gs) (levels_of_where w))
 
--- those of a SELECT with its order
+-- the levels of a SELECT with its order
 abbrev pub levels_of_ordered : OrderedSelect → ℕ
 levels_of_ordered (ordered_select _ q _ _ _) = levels_of_select q
 
--- those of CREATE INDEX: those of its WHERE
+-- the levels of CREATE INDEX: those of its WHERE
 abbrev pub levels_of_index : CreateIndex → ℕ
 levels_of_index (index_on _ _ _ _ _ _ _ _ _ _ _ w _) = levels_of_where w
 
--- those of CREATE INDEX without its first two words and its end
+-- the levels of CREATE INDEX without its first two words and its end
 abbrev pub levels_of_cand : Cand → ℕ
 levels_of_cand (cand_on _ _ _ _ _ _ _ _ _ w) = levels_of_where w
 
--- the most of further candidates
+-- the most levels of further candidates
 abbrev pub levels_of_cands : List (Token × Cand) → ℕ
 levels_of_cands [] = 0
 levels_of_cands ((_, c) ∷ cs) = max (levels_of_cand c) (levels_of_cands cs)
 
--- those of a SELECT in parentheses, which open no level
+-- the levels of a SELECT in parentheses, which open none themselves
 abbrev pub levels_of_advised : Advised → ℕ
 levels_of_advised (advised _ x _) = levels_of_windowed x
 
--- the most of further ones
+-- the most levels of further SELECTs in parentheses
 abbrev pub levels_of_more_advised : List Advised → ℕ
 levels_of_more_advised [] = 0
 levels_of_more_advised (x ∷ xs) = max (levels_of_advised x) (levels_of_more_advised xs)
 
--- those of ADVISE: the most of its candidates and of its SELECTs
+-- the levels of ADVISE: the most of its candidates and of its SELECTs
 abbrev pub levels_of_advise : Advise → ℕ
 levels_of_advise (advise_of _ _ _ _ c cs _ x xs _) = max (levels_of_cand c) (max (levels_of_cands cs) (max (levels_of_advised x) (levels_of_more_advised xs)))
 
--- those of a statement
+-- the levels of a statement
 abbrev pub levels_of : Statement → ℕ
 levels_of (empty _) = 0
 levels_of (create_table _ _ _ _ _ _ _ _) = 0

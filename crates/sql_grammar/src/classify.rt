@@ -105,7 +105,7 @@ fn spelling(word: Word) -> &'static [u8]
     }
 }
 
-/// Such a word in small letters.
+/// A word that is not reserved, in small letters.
 fn free_spelling(word: Free) -> &'static [u8]
     ensures { result.now ≡ free_spelling_of word }
 {

@@ -10,13 +10,14 @@ ghost use Rattle.sql_grammar.specs.Unique.{ends_cand, ends_expr, ends_windowed, 
 ghost use Rattle.sql_grammar.specs.Words.{words_of, words_of_cand, words_of_expr, words_of_windowed, levels_of_cand, levels_of_windowed};
 
 /// A list of terminals is the words of one statement at most. Where they are those of some tokens, the statement's tokens, in
-/// the order of its words, are these. So tokens have one syntax tree at most.
+/// the order of its words, are these. Hence tokens have one syntax tree at most.
 pub fn one_statement()
     ensures one { (x y : Statement) → words_of x ≡ words_of y → x ≡ y }
     ensures tokens { (x : Statement) → HaveTheirTokens (words_of x) }
 {}
 
-/// The same of expressions; and a list of terminals begins with one expression at most that no further word goes on.
+/// A list of terminals is the words of one expression at most, and begins with one expression at most that no further
+/// word goes on. Where they are those of some tokens, the expression's tokens, in the order of its words, are these.
 pub fn one_expression()
     ensures one { (a b : Expr) → words_of_expr a ≡ words_of_expr b → a ≡ b }
     ensures ahead { IsOneAhead words_of_expr ends_expr }
@@ -31,7 +32,9 @@ pub fn one_windowed_select()
     ensures ends { HasItsEnd IsWindowed ends_windowed words_of_windowed levels_of_windowed }
 {}
 
-/// The same of candidates for an index and `cand_end`.
+/// A list of terminals begins with one candidate for an index at most that no further word goes on. Where tokens of a
+/// statement begin with the words of one, within the limits, and a word that goes on none follows, `cand_end` answers
+/// the number of that word.
 pub fn one_candidate()
     ensures ahead { IsOneAhead words_of_cand ends_cand }
     ensures ends { HasItsEnd IsCand ends_cand words_of_cand levels_of_cand }

@@ -1,7 +1,7 @@
 //! The grammar of a statement: which lists of words are one, and where any other list leaves it.
 //!
-//! A statement is a concrete syntax tree (specs/Syntax.antt) and its words (specs/Words.antt). Every fault is told of the
-//! trees alone: the first word after which no statement goes on (42601), or that is past a limit (54000).
+//! A statement is a concrete syntax tree (specs/Syntax.antt) and its words (specs/Words.antt). Every fault is stated over
+//! the trees alone: the first word after which no statement goes on (42601), or that is past a limit (54000).
 #![tactic(auto)]
 
 mod class;

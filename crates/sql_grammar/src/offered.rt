@@ -1,7 +1,7 @@
 //! The productions that a script may have so far.
 //!
 //! Each one stands in the grammar with its trees, its rows and their proofs. Where its constant is false, no statement has
-//! it: its first word is a syntax fault. Everything here is proved for both values.
+//! that production: its first word is a syntax fault. Everything here is proved for both values.
 
 /// ADVISE: which of some indexes serve some SELECTs best.
 pub const READS_ADVISE: bool = true;

@@ -1,6 +1,6 @@
 //! The rows of the table: for each item the tokens that are awaited, and the items that then stand in its place.
 //!
-//! This is the one place where a production's rows are said: the definitions of specs/ read these constants.
+//! Nowhere else are a production's rows said: the definitions of specs/ read the constants of this file.
 
 use crate::class::Class::{End, Key, Mark, Name, Number, Operator, Quoted, Semicolon};
 use crate::class::{Class, Free, Symbol, Word};

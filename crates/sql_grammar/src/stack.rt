@@ -45,13 +45,13 @@ impl Drop for Stack {
 /// What a token did to the stack.
 #[derive(Clone, Copy)]
 pub enum Step {
-    /// It was awaited.
+    /// The token was awaited.
     Took,
-    /// It was not, and something else has to come.
+    /// The token was not awaited, and something else has to come.
     Refused,
-    /// It was not, and nothing else has to come.
+    /// The token was not awaited, and nothing else has to come.
     Ended,
-    /// It was awaited, and opens a level too many.
+    /// The token was awaited, and opens a level too many.
     TooDeep,
 }
 

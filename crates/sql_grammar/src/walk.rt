@@ -1,7 +1,7 @@
 //! The walk over a statement's tokens: where they leave the grammar, and where a part of a statement ends.
 //!
 //! Conditions of the calls: the text has at most 2^31 bytes, the tokens are the words of a statement from some offset of
-//! it, up to `;` or the text's end, and `first` is the number of one of them. None of them takes memory.
+//! the text, up to `;` or its end, and `first` is the number of one of them. None of the calls takes memory.
 
 ghost use Rattle.std.specs.Prelude.{◌≡◌, ℕ, ◌^◌, ◌<◌, ◌≤◌, length, drop, true};
 ghost use Rattle.sql_lex.specs.Words.{AreWords};
@@ -20,11 +20,11 @@ use sql_lex::{Token, Tokens};
 
 /// What became of a token.
 enum Taken {
-    /// It was awaited.
+    /// The token was awaited.
     On,
-    /// It was not, and nothing else has to come.
+    /// The token was not awaited, and nothing else has to come.
     Ended,
-    /// It is at fault.
+    /// The token is in error.
     Stops(Code),
 }
 

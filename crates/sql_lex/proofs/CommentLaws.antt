@@ -53,7 +53,7 @@ closing-comment _ (byte b bs h inside) n rest = byte-step b bs h (not_nil bs ins
 closing-comment _ (nested inner bs first second) n rest =
     rw append_assoc (closing-comment inner first (suc n) (bs ++ rest) ∙ closing-comment bs second n rest)
 
--- that many comments, one after the other
+-- a text is so many whole comments, one after the other
 abbrev pub CloseAll : ℕ → List ℕ → Type 0
 CloseAll zero c = c ≡ []
 CloseAll (suc n) c = (x y : List ℕ) × (c ≡ x ++ y) × ClosesComment x × CloseAll n y

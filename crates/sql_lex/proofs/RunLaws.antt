@@ -29,12 +29,12 @@ module _ (p : ℕ → Bool) where
   stops-step x xs true h more = rw one-add more
   stops-step x xs false h more = h
 
-  -- what follows the run does not
+  -- what follows the run at the front does not pass
   pub run_stops : (xs : List ℕ) → IsNotNext p (drop (prefix_len p xs) xs)
   run_stops [] = tt
   run_stops (x ∷ xs) = stops-step x xs (p x) refl (run_stops xs)
 
-  -- such a run is the run at the front
+  -- bytes that all pass, before one that does not, are the run at the front
   pub run_is : (a r : List ℕ) → list_all p a ≡ true → IsNotNext p r → prefix_len p (a ++ r) ≡ length a
   run_is [] [] all next = refl
   run_is [] (x ∷ r) all next = rw next refl

@@ -52,7 +52,7 @@ StopsAt text from (t ∷ ts) at = IsNext text from t × (is_last text t ≡ fals
 abbrev pub IsWordFault : List ℕ → ℕ → ℕ → Type 0
 IsWordFault text from at = (before : List Token) × StopsAt text from before at
 
--- why the words of a statement are refused: want of memory, or a syntax fault at their first fault
+-- why the words of a statement are refused: memory runs out, or a syntax fault at their first fault
 abbrev pub IsWordRefusal : List ℕ → ℕ → Refusal → Type 0
 IsWordRefusal text from (refusal.Fault f) = (f ≡ syntax_fault f.at) × IsWordFault text from f.at
 IsWordRefusal text from refusal.Memory = Unit {0}

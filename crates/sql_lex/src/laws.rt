@@ -9,7 +9,7 @@ ghost use Rattle.sql_lex.specs.Stops.{IsNoTokenHere};
 ghost use Rattle.sql_lex.specs.Words.{AreWords, IsWordFault};
 
 /// A text has one reading from each place on: one list of words or one first fault, and not both.
-/// So `lex_statement` gives the words wherever there are words, and refuses wherever there is a
+/// Hence `lex_statement` gives the words wherever there are words, and refuses wherever there is a
 /// fault, unless memory runs out.
 pub fn one_reading()
     ensures words { (text : List ℕ) (from : ℕ) (ts us : List Token) →

@@ -15,7 +15,7 @@ use Rattle.sql_query.specs.WellBound.{IsDirected, IsDirectedBy, IsWellBound, giv
 pub own_stands : (order : List OrderItem) → All (λ i. Contains (ordered_columns order) i.col) order
 own_stands order = all_from (λ (i : OrderItem). Contains (ordered_columns order) i.col) order (λ i at. contains_from_in (ordered_columns order) i.col (map_in (λ (k : OrderItem). k.col) order i at))
 
--- and each class has the direction of its first item
+-- where classes are made of the order itself, each has the direction of its first item
 pub own_directions : (c : Contents) (q : Query) → IsClassTable (given_of c q) q.classes → All (IsDirected c q) q.classes.classes
 own_directions c q is = all_from (IsDirected c q) q.classes.classes
     (λ k at free item found.

@@ -19,15 +19,15 @@ pub record Query : Type 0 where
   pub where_all : List Cond
   pub window : Option Window
 
--- the number of its relations
+-- the number of a query's relations
 abbrev pub width : Query → ℕ
 width q = length q.range
 
--- the set of its relations
+-- the set of a query's relations
 abbrev pub all_of_query : Query → Set
 all_of_query q k = nat_lt k (width q)
 
--- the same query in another order
+-- a query in another order
 abbrev pub in_order_of : Query → List OrderItem → Query
 in_order_of q order = record {
   range = q.range;

@@ -20,7 +20,7 @@ pub record Holds (d : TableDef) (s : Stored) : Type 0 where
   pub loaded : d.loaded ≡ length s.rows
   pub lawful : IsLawfulData s
 
--- so for each table
+-- what is stored of each table is lawful data of its columns, and the catalogue has the number of its rows
 abbrev pub IsWorld : World → Type 0
 IsWorld w = AllZip Holds w.contents.tables w.stored
 

@@ -12,8 +12,8 @@ use std::marker::Model;
 /// aliases, `used` holds every column of `select`, `order` and `where_all` and each is one of its relation's table, the
 /// conditions are well typed and keep the limits of conjuncts and atoms, and `classes` are those of the conditions in
 /// pushed form and of a list of order items over columns of `used`, in which each column of `order` stands. An item of `order`
-/// whose class has no constant and belongs to no earlier item of `order` has its class's direction. For a query that is read
-/// this list is `order` itself; of a grouped one the GROUP BY columns stand behind it. Contracts see a `Query`.
+/// whose class has no constant and belongs to no earlier item of `order` has its class's direction. The list of order items is
+/// `order` itself for a query that is read; of a grouped one the GROUP BY columns stand behind it. Contracts see a `Query`.
 pub struct Prepared {
     /// The relations, in FROM order.
     pub range: RangeTable,

@@ -39,7 +39,7 @@ module _ (w : World) (text : List ℕ) (tokens : List Token) where
       reply = (is, refl, refl);
     }
 
-    -- that there is none is its fault
+    -- that there is no advice is the fault of ADVISE
     pub unadvised : HasNoAdviceFor w.contents a.candidates a.queries a.most → Refuses (ends.Fault (no_advice tokens)) w text tokens 0 0
     unadvised none = (in_meaning (advise_tree m.statement) m.spelled (inr (a, m.means, (classes, none, refl))), plain-field w.contents (no_advice tokens) refl, refl)
 

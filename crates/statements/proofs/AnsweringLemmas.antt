@@ -67,7 +67,7 @@ still w text tokens (Grouped g) = groups-still w (is_explained (terminals text t
 abbrev explanation : Contents → Query → Plan → Reply
 explanation c q p = record { bytes = explained_text c q p; fetched = exactly 0; looked = 0 }
 
--- a query was measured: nothing is told of one that is explained, with its table or without
+-- a query was measured: nothing is said of one that is explained, with its table or without
 pub rows-tallied : (w : World) (q : Query) (x : Wanted) (m : Measured) → x ≡ wanted.Rows → IsMeasured w q m.rows m.cost → IsTallied w (asked_as x q) (Some m)
 rows-tallied w q x m asks is = subst (λ (y : Wanted). IsTallied w (asked_as y q) (Some m)) (sym asks) (record { reply = is.reply; replies = is.answers; measured = is })
 
@@ -87,11 +87,11 @@ groups-tallied w g false answers explains = record { reply = answers.0; replies 
 
 module _ (w : World) (text : List ℕ) (tokens : List Token) (s : Selected) (read : IsReadOver w text tokens (asked_of text tokens s) (end_of tokens)) (unplanned : HasNoneOf w.contents s → IsFaultOver w text tokens (no_plan text tokens)) where
   module _ (old new : Traces) where
-    -- its reply was written whole
+    -- the reply was written whole
     pub answered-over : (next : ℕ) → next ≡ end_of tokens → HasReplied (IsReply w (asked_of text tokens s)) old new → IsAnsweredOver w text tokens next old new
     answered-over next at replied = subst (λ n. IsAnsweredOver w text tokens n old new) (sym at) (asked_of text tokens s, read, still w text tokens s, replied)
 
-    -- or it was not
+    -- the reply was not written whole
     printing-stops : (e : Stop) → Leaves e (IsReply w (asked_of text tokens s)) old new → (e ≡ stop.NoPlan → HasNoneOf w.contents s) → StopsOver (end_of_stop e (no_plan text tokens)) w text tokens old new
     printing-stops stop.NoPlan same none = (unplanned (none refl), plain-field w.contents (no_plan text tokens) refl, same)
     printing-stops stop.Write begun none = (asked_of text tokens s, end_of tokens, read, begun)
@@ -104,11 +104,11 @@ module _ (w : World) (text : List ℕ) (tokens : List Token) (s : Selected) (rea
         subst (λ (x : End). StopsOver x w text tokens old new) (sym ends)
         (subst (λ (g : Fault). StopsOver (end_of_stop e g) w text tokens old new) (sym at) (printing-stops e leaves none))
 
-  -- it was measured
+  -- the query was measured
   pub measured-over : (m : Option Measured) → IsTallied w (asked_of text tokens s) m → IsTalliedOver w text tokens (end_of tokens) m
   measured-over m tallied = record { action = asked_of text tokens s; read = read; still = still w text tokens s; tallied = tallied }
 
-  -- or it was not
+  -- the reply was not written whole
   measuring-stops : (e : Stop) → (e ≡ stop.NoPlan → HasNoneOf w.contents s) → (e ≡ stop.Write → ⊥) → Refuses (end_of_stop e (no_plan text tokens)) w text tokens 0 0
   measuring-stops stop.NoPlan none wrote = (unplanned (none refl), plain-field w.contents (no_plan text tokens) refl, refl)
   measuring-stops stop.Write none wrote = absurd (wrote refl)

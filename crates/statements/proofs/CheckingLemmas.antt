@@ -1,4 +1,4 @@
--- What is told of a certificate.
+-- What is said of a certificate.
 use Rattle.std.proofs.Common.{ℕ, List, refl}
 use Rattle.sql_lex.specs.declared.tokens.Token.{Token}
 use Rattle.sql_query.specs.Queries.{Query}
@@ -8,6 +8,6 @@ use Rattle.store.specs.Actions.{verify}
 use Rattle.statements.specs.Accepted.{IsReadOver}
 use Rattle.statements.specs.Steps.{IsTelling}
 
--- a line that is told is its reply
+-- a line that is printed is its reply
 pub check-telling : (w : World) (text : List ℕ) (tokens : List Token) (q : Query) (block bytes : List ℕ) (next : ℕ) → IsReadOver w text tokens (verify q block) next → IsCheckedText w.contents q block bytes → IsTelling w text tokens next bytes
 check-telling w text tokens q block bytes next read checked = record { action = verify q block; read = read; still = refl; quiet = refl; reply = (checked, refl, refl) }

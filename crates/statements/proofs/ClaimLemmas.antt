@@ -220,7 +220,7 @@ module _ (given : Given) (w : World) (text : List ℕ) (tokens : List Token) (is
       select-plain : (f : Fault) → bound_part w.contents (token_at tokens 0) is.select ≡ Err f → f.rec ≡ 0
       select-plain f same = subst IsPlain same (part-plain w.contents (token_at tokens 0) is.select)
 
-      -- a fault of its SELECT, or want of memory
+      -- a fault of its SELECT, or out of memory
       pub select-refused : (r : Refusal) → Meant (Err r) → Refuses (end_of_refusal r) w text tokens 0 0
       select-refused (refusal.Fault f) meant =
           let same = meant-fault (bound_part w.contents (token_at tokens 0) is.select) f meant in
@@ -228,13 +228,13 @@ module _ (given : Given) (w : World) (text : List ℕ) (tokens : List Token) (is
       select-refused refusal.Memory meant = inl refl
 
       module _ (q : Query) (meant : Meant (Ok q)) where
-        -- that no line ends the lines behind it
+        -- the fault that no line ends the lines behind the statement
         pub endless-refused : (f : Fault) → f ≡ endless_fault start → HaveNoMark (lines_of (drop start text)) → Refuses (ends.Fault f) w text tokens 0 0
         endless-refused f same none =
             let (b, means, of) = meant-ok (bound_part w.contents (token_at tokens 0) is.select) q meant in
             (in_meaning is.statement is.spelled (is.faults f (without_end start b (behind-stop (Ok start) begins) means none same)), plain-field w.contents f (ap (λ (g : Fault). g.rec) same), refl)
 
-        -- its query and these lines
+        -- what is read is the query and the lines behind the statement
         pub claim-read : (end next : ℕ) → IsBlockEnd text start end next → IsClassTable (given_of w.contents q) q.classes → IsReadOver w text tokens (action_for given q (slice_range text start end)) next
         claim-read end next block own =
             let (b, means, of) = meant-ok (bound_part w.contents (token_at tokens 0) is.select) q meant in
@@ -245,7 +245,7 @@ module _ (given : Given) (w : World) (text : List ℕ) (tokens : List Token) (is
                   (is.does start end next b q.classes (behind-stop (Ok start) begins) means block (subst (λ (x : Query). IsClassTable (given_of w.contents x) q.classes) of own));
             }
 
-        -- one of a plan has no window
+        -- the query of a plan has no window
         pub claim-whole : IsWholeFor given q
         claim-whole =
             let (b, means, of) = meant-ok (bound_part w.contents (token_at tokens 0) is.select) q meant in

@@ -182,7 +182,7 @@ module _ (w : World) (text : List ℕ) (tokens : List Token) where
       IsDefined w w' text tokens next looked looked
   defined-as looked w' r action next m carries reply is = (action, carrying-as looked looked r action next 0 m carries reply (omega arith), is)
 
--- why a new table is refused is told without a text
+-- why a new table is refused is said without a text
 table-refused : (e : End) (w : World) (text name : List ℕ) (names : List (List ℕ)) (columns : List Column) (at : List ℕ) → RefusesDefinition e w [] (table name names columns) at → RefusesDefinition e w text (table name names columns) at
 table-refused (ends.Fault f) w text name names columns at h = h
 table-refused ends.Write w text name names columns at h = h

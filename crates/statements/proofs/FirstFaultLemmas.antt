@@ -15,7 +15,7 @@ use Rattle.sql_grammar.specs.Spelled.{IsSpelled}
 use Rattle.pg_base.specs.declared.limits.TheConstants.{MOST_LEVELS}
 use Rattle.sql_grammar.specs.Faults.{Production, IsStatement, IsPrefix, limit_of, AreWithinLimits, terminals, IsAtFault, fault_at, IsFirstFault}
 
--- what a terminal at fault does, by its kind of fault
+-- what a terminal in error does, by its kind of fault
 abbrev Cause : Production → List Terminal → Terminal → Code → Type 0
 Cause Of before t code =
     ((code ≡ S1) × ((limit : ℕ) → IsPrefix Of limit (before ++ t ∷ []) → ⊥))
@@ -43,7 +43,7 @@ one_code Of before t c d (inr (inr (one, e, h, g))) (inr (inr (limit, f, k, l)))
     let limits : one ≡ limit = cc in
     e ∙ (ap S15 limits ∙ sym f)
 
--- where the production goes on with a terminal within its limits, the terminal is not at fault
+-- where the production goes on with a terminal within its limits, the terminal is not in error
 no_cause : (Of : Production) (before : List Terminal) (t : Terminal) (code : Code) → Cause Of before t code → IsPrefix Of MOST_LEVELS (before ++ t ∷ []) → limit_of t ≡ None → ⊥
 no_cause Of before t code (inl (e, h)) goes within = h MOST_LEVELS goes
 no_cause Of before t code (inr (inl (e, h, g))) goes within = h goes
@@ -62,7 +62,7 @@ within-at : (a : List Terminal) (t : Terminal) (b : List Terminal) → AreWithin
 within-at [] t b h = All-head (λ i. limit_of i ≡ None) t b h
 within-at (x ∷ a) t b h = within-at a t b (All-tail (λ i. limit_of i ≡ None) x ((a ++ t ∷ []) ++ b) h)
 
--- no token of a list is at fault that begins the production within the limits
+-- no token of a list is in error that begins the production within the limits
 no_fault_in : (Of : Production) (text : List ℕ) (tokens before : List Token) (token : Token) (after : List Token) (code : Code) → tokens ≡ before ++ token ∷ after
     → IsPrefix Of MOST_LEVELS (terminals text tokens) → AreWithinLimits (terminals text tokens) → IsAtFault Of (terminals text before) (terminal_of text token) code → ⊥
 no_fault_in Of text tokens before token after code e begins within at =

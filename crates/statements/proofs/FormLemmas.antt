@@ -15,7 +15,7 @@ use Rattle.statements.specs.Replies.{IsReply}
 pub bound-as : (c : Contents) (s t : Selected) → s ≡ t → IsBoundTo c s → IsBoundTo c t
 bound-as c s t is bound = subst (IsBoundTo c) is bound
 
--- that it has no admissible plan
+-- what is read has no admissible plan, whichever of two equal readings is asked
 pub none-as : {A : Type 0} (c : Contents) (s t : Selected) (r : Result A Stop) → s ≡ t → IfErr r (λ e. e ≡ stop.NoPlan → HasNoneOf c t) → IfErr r (λ e. e ≡ stop.NoPlan → HasNoneOf c s)
 none-as c s t r is h = subst (λ (x : Selected). IfErr r (λ e. e ≡ stop.NoPlan → HasNoneOf c x)) (sym is) h
 

@@ -97,7 +97,7 @@ meaning-plain cat (index_on start i n o of u p x xs m c w e) = cand-plain cat st
 fault-plain : (cat : Contents) (x : CreateIndex) (f : Fault) → meaning cat x ≡ Err f → f.rec ≡ 0
 fault-plain cat x f is = subst IsPlain is (meaning-plain cat x)
 
--- a column at fault has its place
+-- a column in error has its place
 pub place-among : (cat : Contents) (name : List ℕ) (x : Index) (e : CatalogFault) (count : ℕ) → IsIndexRefusal cat name x e → count ≡ length (columns_of x) + 1 → IsPlaceAmong e count
 place-among cat name x (refused.ColumnTwice place) count h many = omega (arith, h.1.within, many)
 place-among cat name x refused.NameTaken count h many = tt

@@ -22,7 +22,7 @@ refuses-data (ends.Fault f) w text t start looked looked' h unread looks = (h, u
 refuses-data ends.Write w text t start looked looked' h unread looks = h
 refuses-data ends.Memory w text t start looked looked' h unread looks = looks
 
--- a fault is not want of memory
+-- a fault is not that memory ran out
 pub no-memory : (e : CopyFault) (t : TableNo) (start : ℕ) (end : End) (f : Fault) → end ≡ end_by (rows_fault e t start) → end ≡ ends.Fault f → e ≡ copying.Memory → ⊥
 no-memory e t start end f told is memory =
     let wrong : ends.Fault f ≡ ends.Memory = sym is ∙ told ∙ ap (λ (x : CopyFault). end_by (rows_fault x t start)) memory in

@@ -146,7 +146,7 @@ asked-alike : (c : Contents) (most : ℕ) (candidates : List NamedIndex) (a b : 
     AskedAlike c (Ok (asked-of most candidates a)) (Ok (asked-of most candidates b))
 asked-alike c most candidates a b alike left right = ap (λ (qs : List Query). asked-of most candidates qs) (alike left right)
 
--- two readings, where the second is told but for tables
+-- two readings, where the second is known but for tables
 then-alike : (c : Contents) (A : Type 0) (First : Result A Fault → Type 0) (Next : A → Result Asked Fault → Type 0) → HasOne First → ((x : A) (r s : Result Asked Fault) → Next x r → Next x s → AskedAlike c r s) →
     (r s : Result Asked Fault) → Then A Asked First Next r → Then A Asked First Next s → AskedAlike c r s
 then-alike c A First Next one next r s (inl (f, h, i)) (inl (g, k, j)) =
@@ -176,6 +176,6 @@ one-advice c tokens (advise_of p start n o x xs m q qs e) =
     then-alike c (List NamedIndex) _ _ (one-value (with_room c [] (map name_token (candidates_of x xs)) candidates)) (λ all.
     last-alike c start most all (q ∷ qs))))
 
--- where an advice is told, there is one
+-- where an advice is printed, there is one
 pub no-advice-told : (c : Contents) (candidates : List NamedIndex) (queries : List Query) (most : ℕ) (text : List ℕ) → IsReplyTo c candidates queries most text → HasNoAdviceFor c candidates queries most → ⊥
 no-advice-told c candidates queries most text is none = none is.advice.set is.advice.sum is.is.priced.choice is.is.priced.sum

@@ -51,7 +51,7 @@ one_start text from (Ok a) (Err g) h k = absurd (k.0 h.0)
 one_start text from (Err f) (Ok b) h k = absurd (h.0 k.0)
 one_start text from (Err f) (Err g) h k = ap Err (h.1 ∙ sym k.1)
 
--- a fault that is told twice
+-- a fault that is given twice
 pub some-one : (f g : Fault) → Some f ≡ Some g → f ≡ g
 some-one f g e = cc
 
@@ -134,7 +134,7 @@ one_size_refusal rows pages at (ColumnTwice p) e f g h k i j = absurd h
 one_size_refusal rows pages at TooMany e f g h k i j = absurd h
 one_size_refusal rows pages at Memory e f g h k i j = absurd h
 
--- so are the statistics of a column
+-- the statistics of a column are refused at one place
 pub one_statistics_refusal : (s : Statistics) (at : List ℕ) (d e : CatalogFault) (f g : Fault) → IsStatisticsRefusal s d → IsStatisticsRefusal s e → number_fault d at ≡ Some f → number_fault e at ≡ Some g → f ≡ g
 one_statistics_refusal s at (BadNumber p) (BadNumber q) f g h k i j = one_number at p q f g (one_place s p q h k) i j
 one_statistics_refusal s at (BadNumber p) NameTaken f g h k i j = absurd k

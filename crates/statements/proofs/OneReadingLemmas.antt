@@ -102,7 +102,7 @@ module _ (w : World) (text : List ℕ) (tokens : List Token) where
       let one : t ≡ u = table_one (given_of w.contents (query_with t p)) t u left there in
       ap (λ (z : ClassTable). query_with z p) one ∙ ap (query_with u) (sym same)
 
-  -- and so are those of a grouped query
+  -- the classes of a grouped query are one table
   one_groups_of : (p q : BoundGroups) (t u : ClassTable) → q ≡ p → IsClassTable (given_groups w.contents (grouped_with t p)) t → IsClassTable (given_groups w.contents (grouped_with u q)) u → grouped_with t p ≡ grouped_with u q
   one_groups_of p q t u same left right =
       let there : IsClassTable (given_groups w.contents (grouped_with u p)) u = subst (λ (z : BoundGroups). IsClassTable (given_groups w.contents (grouped_with u z)) u) same right in
@@ -258,7 +258,7 @@ module _ (w : World) (text : List ℕ) (tokens : List Token) where
   one_unadvised x f g (inr (p, h, unadvised)) (inl k) = absurd (one-advice w.contents tokens x (Ok p) (Err g) h k)
   one_unadvised x f g (inr (p, h, (left, none, at))) (inr (q, k, (right, none', at'))) = at ∙ sym at'
 
-  -- what is told is an advice
+  -- what is printed is an advice
   has-advice : (x : Advise) (a : Action) (n : ℕ) (r : Reply) (f : Fault) → Does w text tokens (advise_tree x) a n → IsReply w a r → IsAdviseFault w tokens x f → ⊥
   has-advice x a n r f ((p, h, left, i), y) reply (inl k) = one-advice w.contents tokens x (Ok p) (Err f) h k
   has-advice x a n r f ((p, h, left, i), y) reply (inr (q, k, (right, none, at))) =

@@ -43,7 +43,7 @@ next-plain (Err f) more h k = h
 pub first-plain : (Of : Production) (text : List ℕ) (tokens : List Token) (f : Fault) → IsFirstFault Of text tokens f → f.rec ≡ 0
 first-plain Of text tokens f first = ap (λ (x : Fault). x.rec) first.place
 
--- such a fault is in no field
+-- a fault that is in no record is in no field
 pub plain-field : (c : Contents) (f : Fault) → f.rec ≡ 0 → IsFieldOf c f
 plain-field c f none = λ field some. absurd (omega (arith, none, some))
 

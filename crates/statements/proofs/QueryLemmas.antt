@@ -81,7 +81,7 @@ pub are-no-other : (text : List ℕ) (from : ℕ) (tokens : List Token) → AreW
     begins_check (terminals text tokens) ≡ false → begins_use (terminals text tokens) ≡ false → AreNoOther text tokens
 are-no-other text from tokens words short some other index advice judged used = λ x is. no-other x (terminals text tokens) other index (goes-on text from tokens words short some) advice judged used is
 
--- what is read where this is meant is the query of it with its own classes, and a fault that is told is its fault
+-- what is read is the query that is meant with its own classes, and a fault is the one that is meant
 pub meant-ok : (r : Result Bound Fault) (read : Query) → IsBoundAs r (Ok read) → (b : Bound) × (r ≡ Ok b) × (read ≡ query_with read.classes b)
 meant-ok (Ok b) read is = (b, refl, is)
 meant-ok (Err f) read is = absurd is
@@ -90,7 +90,7 @@ pub meant-fault : (r : Result Bound Fault) (f : Fault) → IsBoundAs r (Err (ref
 meant-fault (Ok b) f is = absurd is
 meant-fault (Err told) f is = ap Err (sym is)
 
--- the same of what is read of a SELECT of either form
+-- what is read of a SELECT of either form is the query that is meant, and a fault is the one that is meant
 plain-ok : (r : Result Bound Fault) (q : Query) → IsReadPlain r (Ok (Plain q)) → (b : Bound) × (r ≡ Ok b) × (q ≡ query_with q.classes b)
 plain-ok (Ok b) q is = (b, refl, is)
 plain-ok (Err f) q is = absurd is
@@ -142,7 +142,7 @@ place-of-select text tokens first is select =
     let many : length (terminals text tokens) ≡ length tokens = length-map tokens (terminal_of text) in
     (place, omega (arith, place, few, many))
 
--- EXPLAIN of a SELECT that groups is told by its first word
+-- EXPLAIN of a SELECT that groups is known by its first word
 explains-by : (p : IsOffered READS_GROUPS) (e : MaybeExplain) (k : Token) (x : GroupedSelect) (g : GroupedQuery) (ts : List Terminal) → words_of (grouped_tree p e k x) ≡ ts →
     groups_asked (is_explained ts) g ≡ asked_of_groups e g
 explains-by p unexplained k x g ts is = let P : List Terminal → Type 0 = λ us. groups_asked (is_explained us) g ≡ answer_groups g in subst P is refl
@@ -193,7 +193,7 @@ module _ (w : World) (text : List ℕ) (tokens : List Token) (some : 0 < length 
         let (b, means, is) = plain-meant in
         record { statement = query reads.grammar.0; spelled = reads.grammar.1; does = (b, means, (q.classes, plain-table b is, ap (action_asked text tokens) is), refl) }
 
-    -- that it has no plan is its fault
+    -- that a query has no plan is its fault
     plain-unplanned : HasNoPlan w.contents q → IsFaultOver w text tokens (no_plan text tokens)
     plain-unplanned none =
         let (b, means, is) = plain-meant in
@@ -217,7 +217,7 @@ module _ (w : World) (text : List ℕ) (tokens : List Token) (some : 0 < length 
         explains-by reads.grammar.offered e reads.grammar.word reads.grammar.select g (terminals text tokens) reads.grammar.spelled.words ∙ ap (asked_of_groups e) is in
         record { statement = tree; spelled = reads.grammar.spelled; does = (b, means, record { classes = g.base.classes; own = groups-table b is; asks = asks }, refl) }
 
-    -- that it has no plan that groups is its fault
+    -- that a grouped query has no plan that groups is its fault
     groups-unplanned : HasNoGroupPlan w.contents g → IsFaultOver w text tokens (no_plan text tokens)
     groups-unplanned none =
         let (b, means, is) = groups-meant in

@@ -31,7 +31,7 @@ answer-some a b n none =
     let some : 0 < length (count_line n) = line-some (n == 1) n in
     omega (arith, long, length-append b (count_line n), some)
 
--- so what prints nothing asks no query
+-- what prints nothing asks no query
 unasked : (w : World) (action : Action) (looks : ℕ) → IsReply w action (silent looks) → IsMeasuredOf (asked_in w action) None
 unasked w idle looks is = tt
 unasked w (make name names columns) looks is = tt

@@ -31,7 +31,7 @@ module _ (w : World) (text : List ℕ) (tokens : List Token) where
   never-write ends.Memory is same = cc (same)
 
   module _ (next : ℕ) (bytes : List ℕ) (is : IsTelling w text tokens next bytes) where
-    -- it asks no query
+    -- a statement that prints a line asks no query
     pub tallied-telling : IsTalliedOver w text tokens next None
     tallied-telling = record {
       action = is.action;
@@ -44,7 +44,7 @@ module _ (w : World) (text : List ℕ) (tokens : List Token) where
       none-fetched : HasRisen (exactly 0) f f
       none-fetched = record { within = omega arith; exact = omega arith }
 
-      -- it was written
+      -- the line was written
       pub telling-written : Appends held held' bytes → IsAnsweredOver w text tokens next (traces held f l) (traces held' f l)
       telling-written gained = (is.action, is.read, is.still, record { reply = told bytes; answers = is.reply; gained = gained; fetched = none-fetched; looked = omega arith })
 

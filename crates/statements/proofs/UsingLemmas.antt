@@ -17,11 +17,11 @@ use Rattle.statements.specs.Steps.{IsAnsweredOver, IsTalliedOver, StopsOver}
 use Rattle.statements.proofs.AnsweringLemmas.{ended}
 
 module _ (w : World) (text : List ℕ) (tokens : List Token) (q : Query) (block : List ℕ) (next : ℕ) (read : IsReadOver w text tokens (follow q block) next) where
-  -- its reply was written whole
+  -- the reply was written whole
   pub followed : (old new : Traces) → HasReplied (IsPlanReplyTo w q block) old new → IsAnsweredOver w text tokens next old new
   followed old new replied = (follow q block, read, refl, replied)
 
-  -- or it was not
+  -- the reply was not written whole
   off-by : (b : Broken) (old new : Traces) → HasBegun (IsPlanReplyTo w q block) old new → StopsOver (end_of_broken b) w text tokens old new
   off-by broken.Write old new begun = (follow q block, next, read, begun)
   off-by broken.Memory old new begun = inr (follow q block, next, read, begun)
@@ -29,7 +29,7 @@ module _ (w : World) (text : List ℕ) (tokens : List Token) (q : Query) (block 
   pub broken-told : (b : Broken) (e : End) (old new : Traces) → e ≡ end_of_broken b → HasBegun (IsPlanReplyTo w q block) old new → StopsOver e w text tokens old new
   broken-told b e old new is begun = subst (λ (x : End). StopsOver x w text tokens old new) (sym is) (off-by b old new begun)
 
-  -- it asks nothing that is measured
+  -- the statement asks nothing that is measured
   pub tallied-plan : (r : Reply) → IsPlanReplyTo w q block r → IsTalliedOver w text tokens next None
   tallied-plan r is = record { action = follow q block; read = read; still = refl; tallied = record { reply = r; replies = is; measured = tt } }
 

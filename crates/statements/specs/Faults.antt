@@ -105,11 +105,11 @@ abbrev pub IsIndexFault : World → List Token → CreateIndex → Fault → Typ
 IsIndexFault w tokens x f =
     (meaning w.contents x ≡ Err f) ⊎ ((r : IndexReading) × (e : CatalogFault) × (meaning w.contents x ≡ Ok r) × IsIndexRefusal w.contents r.name r.index e × (index_fault e r.at r.method tokens ≡ Some f))
 
--- that a query has no admissible plan is an error at the word SELECT
+-- the fault of a query without an admissible plan: an error at the word SELECT
 abbrev pub no_plan : List ℕ → List Token → Fault
 no_plan text tokens = fault_at S16 (token_at tokens (words_before (terminals text tokens)))
 
--- the query with its classes has none
+-- a bound query with its classes has no admissible plan
 abbrev pub IsUnplanned : World → List ℕ → List Token → Bound → Fault → Type 0
 IsUnplanned w text tokens b f =
     (t : ClassTable) × IsClassTable (given_of w.contents (query_with t b)) t × HasNoPlan w.contents (query_with t b) × (f ≡ no_plan text tokens)
@@ -119,7 +119,7 @@ abbrev pub IsQueryFault : World → List ℕ → List Token → OrderedSelect �
 IsQueryFault w text tokens x f =
     (bound w.contents (token_at tokens 0) x ≡ Err f) ⊎ ((b : Bound) × (bound w.contents (token_at tokens 0) x ≡ Ok b) × IsUnplanned w text tokens b f)
 
--- that there is no advice is an error at the word ADVISE
+-- the fault of an ADVISE without an advice: an error at the word ADVISE
 abbrev pub no_advice : List Token → Fault
 no_advice tokens = fault_at S16 (token_at tokens 0)
 

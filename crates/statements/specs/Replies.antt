@@ -12,11 +12,11 @@ use Rattle.plan_reply.specs.Told.{IsPlanReplyTo}
 use Rattle.group_reply.specs.group_explain_Plans.{IsGroupedExplanationOf}
 use Rattle.group_reply.specs.Replies.{IsGroupedAnswerTo}
 
--- nothing printed and nothing fetched, with so many looks
+-- the reply with nothing printed and nothing fetched, and a number of looks
 abbrev pub silent : ℕ → Reply
 silent looks = record { bytes = []; fetched = exactly 0; looked = looks }
 
--- these bytes printed, with nothing fetched and nothing looked at
+-- the reply with some bytes printed, nothing fetched and nothing looked at
 abbrev pub told : List ℕ → Reply
 told bytes = record { bytes = bytes; fetched = exactly 0; looked = 0 }
 

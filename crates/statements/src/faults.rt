@@ -92,8 +92,8 @@ pub(crate) fn refused_index(refused: CatalogFault, at: &[u32], method: u32, toke
     End::Fault(fault)
 }
 
-/// How the refusal of statistics ends its step, whose numbers and literals begin at these offsets: with its fault at the first
-/// that is not allowed.
+/// How the refusal of statistics ends its step, whose numbers and literals begin at the offsets of `at`: with its fault at the
+/// first of them that is not allowed.
 pub(crate) fn refused_statistics(refused: CatalogFault, at: &[u32]) -> End
     requires cause { IsNumberAmong refused (length at.now) }
     ensures { result ≡ end_by (number_fault refused at.now) }

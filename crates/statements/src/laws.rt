@@ -28,7 +28,7 @@ pub fn statements_go_on()
         from ≤ length text → IsRead w text from action next → next ≤ length text }
 {}
 
-/// A statement has one reading from each place on: one action and one end. It has one first fault, and none where it is read
+/// A statement has one reading from each place on: one action and one end; one first fault, and none where it is read
 /// and has a reply.
 pub fn one_reading()
     ensures read { (w : World) (text : List ℕ) (from m n : ℕ) (a b : Action) →

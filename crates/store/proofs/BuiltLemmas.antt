@@ -95,7 +95,7 @@ module _ (d : Index) (rows : List Values) (from : ℕ) (le : from ≤ length row
   pub hashed-grown : (t : HashTable) → hashed t ≡ built_of d (take from rows) → (u : HashTable) → u ≡ with_held t (map held_of (found d rows from)) → hashed u ≡ built_of d rows
   hashed-grown = hashed-by d.table d.keys d.include d.predicate rows from le d.method
 
-  -- and without those again
+  -- a built index without the entries of rows from a number on is one over the first rows
   pub below-built : below from (built_of d rows) ≡ built_of d (take from rows)
   below-built = below-by d.table d.keys d.include d.predicate rows from le d.method
 

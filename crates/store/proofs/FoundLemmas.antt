@@ -17,7 +17,7 @@ use Rattle.hash_index.specs.Held.{Held}
 use Rattle.plan_tree.specs.Entries.{cell, entry, meets_predicate}
 use Rattle.store.specs.Kept.{found, held_of}
 
--- so many numbers, and behind them more
+-- the first numbers from one on, and behind them further ones
 range-add : (a m n : ℕ) → range_with_len a (m + n) ≡ range_with_len a m ++ range_with_len (a + m) n
 range-add a zero n = ap₂ range_with_len (omega arith) (omega arith)
 range-add a (suc m) n =
@@ -100,7 +100,7 @@ module _ (d : Index) (rows : List Values) (from : ℕ) (le : from ≤ length row
       (sym (among-alike d (take from rows) rows 0 from (λ k low high. get_or-take from rows k [] (omega arith))) ∙ ap (among d (take from rows) 0) (sym long))
       (ap (λ a. among d rows a (length rows - from)) start)
 
-  -- those of rows below a number are those of the first rows
+  -- the entries of rows below a number are those of the first rows
   pub whole-cut : filter (λ (e : Entry). nat_lt e.row from) (whole d rows) ≡ whole d (take from rows)
   whole-cut =
       let long : length (take from rows) ≡ from = length-take-le from rows le in

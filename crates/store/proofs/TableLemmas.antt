@@ -29,7 +29,7 @@ module _ (c : Contents) (k : Kept) (of : IsStoreOf c k) (t : TableNo) (is : IsTa
         ap (λ (x : Contents). world x new.stored) (made ∙ ap (with_loaded c t) (count ∙ ap (λ (s : Stored). length s.rows) here))
         ∙ ap (λ (l : List Stored). world (with_loaded c t (length (stored_of new t).rows)) l) others
 
-    -- it is the store of the catalogue with the number of rows
+    -- a loaded store is that of the catalogue with the number of rows
     pub loaded-store : (h : Stored) → slice_get new.stored t.0 ≡ Some h → (rows : ℕ) → rows ≡ length h.rows → (d : Contents) → d ≡ with_loaded c t rows → IsStoreOf (with_loaded c t (length (stored_of new t).rows)) new → IsStoreOf d new
     loaded-store h at rows count d made so =
         let here : h ≡ stored_of new t = sym (get_or_from_slice_get new.stored t.0 h nothing_stored at) in

@@ -86,7 +86,7 @@ impl<C: Counters> Store<C> {
     }
 
     /// Loads a block of COPY data into a table, as `Heap::load` does, and adds the new rows to each index of the table.
-    /// It says how many rows; each is looked at once for each index. A refused load leaves all as before.
+    /// The answer is how many rows; each is looked at once for each index. A refused load leaves all as before.
     pub fn load(
         &mut self,
         cat: &Catalog,

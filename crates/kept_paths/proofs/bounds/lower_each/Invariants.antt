@@ -6,7 +6,7 @@ use Rattle.kept_paths.specs.Bounds.{EarlierEach, is_first, is_told, known_at}
 use Rattle.kept_paths.proofs.ReadLemmas.{passed}
 use Rattle.kept_paths.proofs.bounds.lower_each.Given as goal
 
--- the cost is told of the shorter lists that the list begins with
+-- the cost is noted of the shorter lists that the list begins with
 abbrev pub invariant-loop-n : goal.invariant-loop-n
 invariant-loop-n l = record {
   rooms : (m : ℕ) → IsSome (known_at l.bounds (take m l.list));

@@ -11,7 +11,6 @@ use Rattle.pg_base.specs.declared.rel_set.RelSet.{RelSet}
 use Rattle.catalog.specs.Contents.{Contents, NamedIndex, IsIndex, indexes_of, numbers_from}
 use Rattle.eq_classes.specs.Clauses.{Clause}
 use Rattle.index_match.specs.Numbered.{Numbered, local, numbered}
-use Rattle.path_cost.specs.Estimates.{is_local}
 use Rattle.sql_query.specs.Queries.{Query}
 use Rattle.plan_tree.specs.Bitmaps.{ArePicked, none_left, picked, passed, AreElements, Element, by_clause, by_index, IsElement, MOST_ELEMENTS, candidates, table_of_relation}
 use Rattle.plan_tree.specs.Plans.{all_hold}
@@ -23,6 +22,7 @@ use Rattle.plan_tree.specs.declared.bits.BitTree.TheFolds.{fold-roll-BitTree, fo
 use Rattle.plan_tree.specs.declared.elements.Element.{Element as Chosen}
 use Rattle.plan_tree.proofs.FrontLemmas.{all-sources}
 use Rattle.bitmap_scan.specs.ElementTrees.{IsMade}
+use Rattle.eq_classes.specs.Parts.{is_local}
 
 -- what an AND of bitmap trees stands for
 pub and-is : (parts : Parts) → bits (And parts) ≡ all_hold (trees_of (map bits parts.items.items))

@@ -6,7 +6,7 @@ use Rattle.std.proofs.Math.Bool.{and-true}
 use Rattle.pg_base.specs.declared.numbers.ColNo.{ColNo}
 use Rattle.opfamily.specs.declared.classes.IndexKey.{IndexKey}
 use Rattle.opfamily.specs.declared.classes.Method.TheVariants.{Hash}
-use Rattle.catalog.specs.Indexes.{Index, AreDifferent, columns_of, has_form, is_plain}
+use Rattle.catalog.specs.Indexes.{Index, AreDifferentColumns, columns_of, has_form, is_plain}
 use Rattle.catalog.proofs.NameLaws.{distinct-more}
 
 -- how many columns an index has
@@ -14,12 +14,12 @@ pub length-columns : (x : Index) → length (columns_of x) ≡ length x.keys + l
 length-columns x = let len = length-map x.keys (λ (k : IndexKey). k.col) in length-append _ x.include ∙ ap (λ n. n + length x.include) len
 
 -- one more column that does not stand before
-pub different-more : (cs : List ColNo) (n : ℕ) (d : ColNo) → n < length cs → AreDifferent (take n cs) → (Contains (take n cs) (get_or cs n d) → ⊥) → AreDifferent (take (n + 1) cs)
+pub different-more : (cs : List ColNo) (n : ℕ) (d : ColNo) → n < length cs → AreDifferentColumns (take n cs) → (Contains (take n cs) (get_or cs n d) → ⊥) → AreDifferentColumns (take (n + 1) cs)
 different-more cs n d lt h new = distinct-more cs n (get_or cs n d) lt (get_or_default cs n _ d lt) h new
 
 -- all of them
-pub different-all : (cs : List ColNo) (n : ℕ) → length cs ≤ n → AreDifferent (take n cs) → AreDifferent cs
-different-all cs n le h = subst AreDifferent (take_all n cs le) h
+pub different-all : (cs : List ColNo) (n : ℕ) → length cs ≤ n → AreDifferentColumns (take n cs) → AreDifferentColumns cs
+different-all cs n le h = subst AreDifferentColumns (take_all n cs le) h
 
 plain-one : (ks : List IndexKey) (k : IndexKey) → length ks ≡ 1 → k ≡ get_or ks 0 k → list_all is_plain ks ≡ is_plain k
 plain-one [] k len at = absurd (omega (arith, len))

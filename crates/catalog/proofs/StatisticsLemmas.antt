@@ -6,7 +6,7 @@ use Rattle.std.proofs.lemmas.Bool.Decides.{nat_tests}
 use Rattle.std.proofs.lemmas.List.{get_or_default, length-take, take_all}
 use Rattle.std.proofs.lemmas.List.Sums.{sum_by-take-le}
 use Rattle.opfamily.specs.pg_value_value_SqlType.{SqlType}
-use Rattle.catalog.specs.Statistics.{AreAllowed, AreValuesOf, Common, IsLawfulStatistics, Statistics, bound_at, bound_of, common_at, is_below, is_bound_refused, is_common_refused, is_equal, is_refused, is_share_refused, no_common, pair_of, shares}
+use Rattle.catalog.specs.Statistics.{AreAllowed, AreValuesOf, Common, IsLawfulStatistics, Statistics, bound_at, bound_number_at, common_at, is_below, is_bound_refused, is_common_refused, is_equal, is_refused, is_share_refused, no_common, pair_of, shares}
 use Rattle.catalog.specs.declared.limits.TheConstants.{MOST_BOUNDS, MOST_COMMON, WHOLE_SHARE}
 
 -- the places of a common value, of its share and of a bound
@@ -33,8 +33,8 @@ at-bound s k place lt is =
     let zeroth : nat_eq place 0 ≡ false = grind (arith, nat_tests) in
     let first : nat_eq place 1 ≡ false = grind (arith, nat_tests) in
     let past : nat_lt (pair_of place) (length s.common) ≡ false = grind (arith, nat_tests) in
-    let bound : bound_of s place ≡ k = omega (arith, is) in
-    let within : nat_lt (bound_of s place) (length s.histogram) ≡ true = grind (arith, nat_tests) in
+    let bound : bound_number_at s place ≡ k = omega (arith, is) in
+    let within : nat_lt (bound_number_at s place) (length s.histogram) ≡ true = grind (arith, nat_tests) in
     rw (zeroth, first, past, within) (ap (is_bound_refused s) bound)
 
 positive : (n : ℕ) → nat_lt 0 (n + 1) ≡ true
@@ -100,7 +100,7 @@ module _ (s : Statistics) (most : ℕ) (clean : (n : ℕ) → n < most → is_re
       let zeroth : nat_eq n 0 ≡ false = grind (arith, nat_tests) in
       let first : nat_eq n 1 ≡ false = grind (arith, nat_tests) in
       let past : nat_lt (pair_of n) (length s.common) ≡ false = grind (arith, nat_tests) in
-      let end : nat_lt (bound_of s n) (length s.histogram) ≡ false = grind (arith, nat_tests) in
+      let end : nat_lt (bound_number_at s n) (length s.histogram) ≡ false = grind (arith, nat_tests) in
       rw (zeroth, first, past, end) refl
 
 -- where the places below 255 are not refused, none is
@@ -221,6 +221,6 @@ module _ (t : SqlType) (s : Statistics) (h : IsLawfulStatistics t s) where
       (λ e.
       let lt : pair_of place < length s.common = grind (arith, nat_tests) in
       cond_false (nat_eq (place % 2) 0) _ _ (λ even. value-allowed (pair_of place) lt) (λ odd. share-allowed (pair_of place) lt))
-      (λ e. and_fails (nat_lt (bound_of s place) (length s.histogram)) _ (λ f.
-      let lt : bound_of s place < length s.histogram = grind (arith, nat_tests) in
-      bound-allowed (bound_of s place) lt))))
+      (λ e. and_fails (nat_lt (bound_number_at s place) (length s.histogram)) _ (λ f.
+      let lt : bound_number_at s place < length s.histogram = grind (arith, nat_tests) in
+      bound-allowed (bound_number_at s place) lt))))

@@ -5,7 +5,7 @@ use Rattle.pg_base.specs.declared.limits.TheConstants.{MOST_CANDIDATES, MOST_IND
 use Rattle.pg_base.specs.declared.numbers.TableNo.{TableNo}
 use Rattle.pg_base.specs.Names.{AreDistinct, IsName}
 use Rattle.catalog.specs.Contents.{Contents, NamedIndex, indexes_of}
-use Rattle.catalog.specs.Indexes.{AreDifferent, columns_of, has_form}
+use Rattle.catalog.specs.Indexes.{AreDifferentColumns, columns_of, has_form}
 use Rattle.catalog.specs.Tables.{Fits, IsUnused}
 
 -- the names of some indexes
@@ -21,7 +21,7 @@ pub record IsCandidateIndex (c : Contents) (x : NamedIndex) : Type 0 where
   pub name : IsName x.name
   pub fits : Fits c x.index
   pub free : IsUnused c x.name
-  pub distinct : AreDifferent (columns_of x.index)
+  pub distinct : AreDifferentColumns (columns_of x.index)
   pub form : has_form x.index ≡ true
 
 -- candidates that may be made together: not too many, each one that may be made, no two of the same name, and with them no

@@ -29,13 +29,13 @@ abbrev pub columns_of : Index → List ColNo
 columns_of x = map (λ (k : IndexKey). k.col) x.keys ++ x.include
 
 -- no two of some columns are the same
-abbrev pub AreDifferent : List ColNo → Type 0
-AreDifferent cs = AllPairs (λ a b. a ≢ b) cs
+abbrev pub AreDifferentColumns : List ColNo → Type 0
+AreDifferentColumns cs = AllPairs (λ a b. a ≢ b) cs
 
 -- the first column that stands before already is at a place
 pub record IsFirstTwice (cs : List ColNo) (place : ℕ) : Type 0 where
   pub within : place < length cs
-  pub before : AreDifferent (take place cs)
+  pub before : AreDifferentColumns (take place cs)
   pub twice : Contains (take place cs) (slice_index_or cs place (record { 0 = 0 }))
 
 -- the method has indexes of this form: a hash index has one key, ascending with NULLs last, and no INCLUDE column
@@ -85,5 +85,5 @@ pub record FitsColumns (columns : List Column) (x : Index) : Type 0 where
 -- a lawful definition: it fits, no column stands twice, and the method has its form
 pub record IsLawfulIndex (columns : List Column) (x : Index) : Type 0 where
   pub fits : FitsColumns columns x
-  pub distinct : AreDifferent (columns_of x)
+  pub distinct : AreDifferentColumns (columns_of x)
   pub form : has_form x ≡ true

@@ -76,8 +76,8 @@ abbrev pub pair_of : ℕ → ℕ
 pair_of place = place / 2 - 1
 
 -- the number of the bound that stands at a place, from 0; it is one where the place is behind those of all common values
-abbrev pub bound_of : Statistics → ℕ → ℕ
-bound_of s place = place - (2 + 2 * length s.common)
+abbrev pub bound_number_at : Statistics → ℕ → ℕ
+bound_number_at s place = place - (2 + 2 * length s.common)
 
 -- a common value stands at each even place, and its share behind it
 abbrev pub is_pair_refused : Statistics → ℕ → Bool
@@ -89,7 +89,7 @@ is_refused s place =
     cond (nat_eq place 0) (not (is_count s.distinct))
     (cond (nat_eq place 1) (nat_lt WHOLE_SHARE s.nulls)
     (cond (nat_lt (pair_of place) (length s.common)) (is_pair_refused s place)
-    (nat_lt (bound_of s place) (length s.histogram) && is_bound_refused s (bound_of s place))))
+    (nat_lt (bound_number_at s place) (length s.histogram) && is_bound_refused s (bound_number_at s place))))
 
 -- nothing is refused
 abbrev pub AreAllowed : Statistics → Type 0

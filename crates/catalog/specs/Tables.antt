@@ -12,7 +12,7 @@ use Rattle.catalog.specs.declared.fault.CatalogFault.TheVariants.{NameTaken, Col
 use Rattle.catalog.specs.declared.limits.TheConstants.{ROWS_PER_PAGE}
 use Rattle.pg_base.specs.Names.{AreDistinct, IsFirstRepeat}
 use Rattle.catalog.specs.Contents.{Contents, IsColumn, IsIndex, IsTable, all_names, index_name_at, index_names, indexes_of, name_at, table_at, table_names}
-use Rattle.catalog.specs.Indexes.{Index, AreDifferent, FitsColumns, IsFirstTwice, columns_of, has_form}
+use Rattle.catalog.specs.Indexes.{Index, AreDifferentColumns, FitsColumns, IsFirstTwice, columns_of, has_form}
 use Rattle.catalog.specs.declared.table.Sizes.{Sizes}
 use Rattle.catalog.specs.Statistics.{Statistics, IsFirstRefused, is_count}
 
@@ -79,7 +79,7 @@ pub record Fits (c : Contents) (x : Index) : Type 0 where
 -- a new index may be made: its name is unused, no column stands twice, its table has fewer than 8 indexes, and the method has its form
 pub record IsAcceptableIndex (c : Contents) (name : List ℕ) (x : Index) : Type 0 where
   pub free : IsUnused c name
-  pub distinct : AreDifferent (columns_of x)
+  pub distinct : AreDifferentColumns (columns_of x)
   pub room : length (indexes_of c x.table) < MOST_INDEXES
   pub form : has_form x ≡ true
 
@@ -88,8 +88,8 @@ pub record IsAcceptableIndex (c : Contents) (name : List ℕ) (x : Index) : Type
 abbrev pub IsIndexRefusal : Contents → List ℕ → Index → CatalogFault → Type 0
 IsIndexRefusal c name x NameTaken = Contains (all_names c) name
 IsIndexRefusal c name x (ColumnTwice place) = IsUnused c name × IsFirstTwice (columns_of x) place
-IsIndexRefusal c name x TooMany = IsUnused c name × AreDifferent (columns_of x) × (length (indexes_of c x.table) ≡ MOST_INDEXES)
-IsIndexRefusal c name x (BadNumber place) = IsUnused c name × AreDifferent (columns_of x) × (length (indexes_of c x.table) < MOST_INDEXES) × (has_form x ≡ false) × (place ≡ 0)
+IsIndexRefusal c name x TooMany = IsUnused c name × AreDifferentColumns (columns_of x) × (length (indexes_of c x.table) ≡ MOST_INDEXES)
+IsIndexRefusal c name x (BadNumber place) = IsUnused c name × AreDifferentColumns (columns_of x) × (length (indexes_of c x.table) < MOST_INDEXES) × (has_form x ≡ false) × (place ≡ 0)
 IsIndexRefusal c name x Memory = IsAcceptableIndex c name x
 
 -- why the size of a table is refused: the rows, at place 0, else the pages, at place 1, are no count

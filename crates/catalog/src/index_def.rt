@@ -3,7 +3,7 @@
 ghost use Rattle.std.specs.Prelude.{◌≡◌, ◌<◌, ◌+◌, ◌≤◌, ◌↔◌, IsTrue, MatchOption, take, length, slice_index_or, Contains};
 ghost use Rattle.pg_base.specs.declared.limits.TheConstants.{MOST_COLUMNS};
 ghost use Rattle.catalog.specs.Entries.{index_of};
-ghost use Rattle.catalog.specs.Indexes.{AreDifferent, IsFirstTwice, columns_of, has_form, is_plain};
+ghost use Rattle.catalog.specs.Indexes.{AreDifferentColumns, IsFirstTwice, columns_of, has_form, is_plain};
 
 use opfamily::{IndexKey, Method};
 use pg_base::{ColNo, TableNo};
@@ -39,7 +39,7 @@ impl Drop for IndexDef {
 /// where they differ.
 pub(crate) fn first_twice(def: &IndexDef) -> Option<u8>
     requires { length def.now.keys.items + length def.now.include.items ≤ MOST_COLUMNS }
-    ensures { MatchOption result (AreDifferent (columns_of (index_of def.now))) (IsFirstTwice (columns_of (index_of def.now))) }
+    ensures { MatchOption result (AreDifferentColumns (columns_of (index_of def.now))) (IsFirstTwice (columns_of (index_of def.now))) }
 {
     for n in 0..def.keys.len() + def.include.len() {
         if stands_before(def, n) {

@@ -15,7 +15,7 @@ use Rattle.eq_classes.specs.Clauses.{Set, ClassTable, first_in, one}
 use Rattle.eq_classes.specs.Listing.{class_at}
 use Rattle.eq_classes.specs.Parts.{union}
 use Rattle.plan_laws.proofs.JoiningLemmas.{joining_classes}
-use Rattle.pathkeys.specs.Keys.{Keys, class_of_key, column_of, ends, gives, has_direction, index_keys, is_constant, keys_by, keys_from, passes, step_of}
+use Rattle.pathkeys.specs.Keys.{Keys, class_of_key, key_column, ends, gives, has_direction, index_keys, is_constant, keys_by, keys_from, passes, step_of}
 use Rattle.pathkeys.proofs.StepLemmas.{keys_by_are_keys}
 use Rattle.sql_query.specs.Queries.{Query}
 use Rattle.plan_tree.specs.Keys.{keys_of}
@@ -68,7 +68,7 @@ from-members t r backward taken (k ∷ ks) = by (λ more. from-members t r backw
     by : ((more : Keys) → AllByRecursion (HasMember t (one r)) (keys_from t r backward more ks)) → (o : Option ℕ) → class_of_key t r k ≡ o
         → AllByRecursion (HasMember t (one r)) (elim (step_of t backward taken k o) [ ends ↦ [] | passes ↦ keys_from t r backward taken ks | gives m ↦ m ∷ keys_from t r backward (m ∷ taken) ks ])
     by later None e = tt
-    by later (Some n) e = by_tests later n (class_found t (column_of r k) (key_family k) n e) (is_constant t n || list_any (nat_eq n) taken) (has_direction backward k (class_at t.classes n))
+    by later (Some n) e = by_tests later n (class_found t (key_column r k) (key_family k) n e) (is_constant t n || list_any (nat_eq n) taken) (has_direction backward k (class_at t.classes n))
 
 by-members : (m : Method) (t : ClassTable) (r : ℕ) (backward : Bool) (ks : List IndexKey) → AllByRecursion (HasMember t (one r)) (keys_by m t r backward ks)
 by-members Btree t r backward ks = from-members t r backward [] ks

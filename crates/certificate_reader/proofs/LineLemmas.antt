@@ -14,7 +14,7 @@ use Rattle.pg_base.proofs.NameLemmas.{decimal-digits}
 use Rattle.sql_query.specs.Queries.{Query}
 use Rattle.plan_check.specs.Certificates.{Entry, Side}
 use Rattle.plan_check.specs.Limit.{MOST_ENTRIES}
-use Rattle.certificate_reader.specs.Faults.{BeginsText, IsText}
+use Rattle.certificate_reader.specs.Faults.{BeginsText, IsCertificateText}
 use Rattle.certificate_entries.specs.certificate_text_HasText.{HasEntryLine, IsEntryNumber}
 use Rattle.certificate_reader.specs.Passed.{Passed}
 use Rattle.certificate_entries.specs.certificate_text_Texts.{best_line, ended, entries_text, entry_line, entry_text, head_text, is_line}
@@ -92,7 +92,7 @@ module _ (c : Contents) (q : Query) (plain : (n : ℕ) (e : Entry) → HasEntryL
       subst (λ m. GoesOn m s tail) one (goes-on (n + 1) es fs s tail (omega (arith, lt)) (All-tail (HasEntryLine c q) x es he) (All-tail (HasEntryLine c q) y fs hf) same.1)
 
   -- the text of a certificate that begins with a part goes on so
-  pub from-part : (es : List Entry) (part tail : List ℕ) → Passed c q es part → IsText c q (part ++ tail) → (s : Side) × IsEntryNumber s.entry × GoesOn (1 + length es) s tail
+  pub from-part : (es : List Entry) (part tail : List ℕ) → Passed c q es part → IsCertificateText c q (part ++ tail) → (s : Side) × IsEntryNumber s.entry × GoesOn (1 + length es) s tail
   from-part es part tail p t =
       let x = t.certificate in
       let whole : head_text q.window ++ (entries_text c q 1 x.entries ++ ended (best_line x.best)) ≡ head_text q.window ++ (entries_text c q 1 es ++ tail) =
@@ -114,7 +114,7 @@ module _ (c : Contents) (q : Query) (plain : (n : ℕ) (e : Entry) → HasEntryL
       }
 
   -- with a best plan it is one
-  pub part-ends : (es : List Entry) (part : List ℕ) (s : Side) → Passed c q es part → IsEntryNumber s.entry → IsText c q (part ++ ended (best_line s))
+  pub part-ends : (es : List Entry) (part : List ℕ) (s : Side) → Passed c q es part → IsEntryNumber s.entry → IsCertificateText c q (part ++ ended (best_line s))
   part-ends es part s p n = record {
     certificate = record { entries = es; best = s };
     has = record { few = p.few; lines = p.lines; best = n };
@@ -133,7 +133,7 @@ module _ (c : Contents) (q : Query) (plain : (n : ℕ) (e : Entry) → HasEntryL
   pub line-stops : (es : List Entry) (part line : List ℕ) → Passed c q es part → is_line line ≡ true →
       ((e : Entry) → HasEntryLine c q e → ¬ (line ≡ entry_line c q (1 + length es) e)) → ((s : Side) → IsEntryNumber s.entry → ¬ (line ≡ best_line s)) → ¬ BeginsText c q (part ++ ended line)
   line-stops es part line p h no-entry no-best b =
-      let t = subst (IsText c q) (append_assoc part (ended line) b.rest) b.text in
+      let t = subst (IsCertificateText c q) (append_assoc part (ended line) b.rest) b.text in
       let g = from-part es part (ended line ++ b.rest) p t in
       line-is (1 + length es) (g.0) line b.rest h no-entry (no-best (g.0) g.1) (g.2).more (g.2).lines (sym (front line b.rest) ∙ (g.2).is)
 
@@ -146,7 +146,7 @@ module _ (c : Contents) (q : Query) (plain : (n : ℕ) (e : Entry) → HasEntryL
   -- behind a best plan a text has nothing
   pub best-stops : (es : List Entry) (part : List ℕ) (s : Side) (b : ℕ) (bs : List ℕ) → Passed c q es part → ¬ BeginsText c q ((part ++ ended (best_line s)) ++ b ∷ bs)
   best-stops es part s b bs p t =
-      let whole = subst (IsText c q) (append_assoc (part ++ ended (best_line s)) (b ∷ bs) t.rest ∙ append_assoc part (ended (best_line s)) (b ∷ (bs ++ t.rest))) t.text in
+      let whole = subst (IsCertificateText c q) (append_assoc (part ++ ended (best_line s)) (b ∷ bs) t.rest ∙ append_assoc part (ended (best_line s)) (b ∷ (bs ++ t.rest))) t.text in
       let g = from-part es part (ended (best_line s) ++ b ∷ (bs ++ t.rest)) p whole in
       best-alone (1 + length es) s (g.0) b (bs ++ t.rest) (omega (arith, p.few)) (g.2).more (g.2).lines (sym (front (best_line s) (b ∷ (bs ++ t.rest))) ∙ (g.2).is)
 
@@ -155,7 +155,7 @@ module _ (c : Contents) (q : Query) (plain : (n : ℕ) (e : Entry) → HasEntryL
   piece-alone m s piece h (x ∷ xs) e = no-end piece (entry_line c q m x) (entries_text c q (m + 1) xs ++ ended (best_line s)) h (e ∙ after m x xs (ended (best_line s)))
 
   -- a piece without LF behind the part is no end of a text, nor is no piece
-  pub piece-stops : (es : List Entry) (part piece : List ℕ) → Passed c q es part → is_line piece ≡ true → ¬ IsText c q (part ++ piece)
+  pub piece-stops : (es : List Entry) (part piece : List ℕ) → Passed c q es part → is_line piece ≡ true → ¬ IsCertificateText c q (part ++ piece)
   piece-stops es part piece p h t =
       let g = from-part es part piece p t in
       piece-alone (1 + length es) (g.0) piece h (g.2).more (g.2).is

@@ -9,7 +9,7 @@ use Rattle.sql_query.specs.Queries.{Query}
 use Rattle.sql_query.specs.declared.window.Window.{Window}
 use Rattle.plan_check.specs.Certificates.{Entry, Side}
 use Rattle.plan_check.specs.Limit.{MOST_ENTRIES}
-use Rattle.certificate_reader.specs.Faults.{BeginsText, IsFaultLine, IsText, Stops, at_line, at_end, joined}
+use Rattle.certificate_reader.specs.Faults.{BeginsText, IsFaultLine, IsCertificateText, StopsBehind, at_line, at_end, lines_joined}
 use Rattle.certificate_entries.specs.certificate_text_HasText.{HasEntryLine}
 use Rattle.certificate_reader.specs.Passed.{Passed}
 use Rattle.certificate_reader.specs.Reading.{AreOnly, IsAtBest, IsBlockRead, IsReadSoFar, head_lines, line_end}
@@ -18,16 +18,16 @@ use Rattle.certificate_entries.specs.Reading.{IsBad, IsBestRead, IsEntryRead}
 use Rattle.certificate_reader.proofs.EndLemmas.{cut, whole-line}
 use Rattle.certificate_reader.proofs.LineLemmas.{after, best-line, best-stops, entry-passed, line-stops, other-line, part-begins, part-ends, parted, piece-stops}
 
-pub few-lines : (ls : List (List ℕ)) → length ls ≤ length (joined ls)
+pub few-lines : (ls : List (List ℕ)) → length ls ≤ length (lines_joined ls)
 few-lines [] = omega arith
 few-lines (l ∷ ls) =
     let more = few-lines ls in
-    let whole : length (ended l ++ joined ls) ≡ (length l + 1) + length (joined ls) = length-append (ended l) (joined ls) ∙ ap (λ n. n + length (joined ls)) (length-append l (codes "\n")) in
+    let whole : length (ended l ++ lines_joined ls) ≡ (length l + 1) + length (lines_joined ls) = length-append (ended l) (lines_joined ls) ∙ ap (λ n. n + length (lines_joined ls)) (length-append l (codes "\n")) in
     omega (arith, more, whole)
 
-pub joined-more : (ls : List (List ℕ)) (l : List ℕ) → joined (ls ++ l ∷ []) ≡ joined ls ++ ended l
+pub joined-more : (ls : List (List ℕ)) (l : List ℕ) → lines_joined (ls ++ l ∷ []) ≡ lines_joined ls ++ ended l
 joined-more [] l = append-nil (ended l)
-joined-more (x ∷ ls) l = ap (λ (t : List ℕ). ended x ++ t) (joined-more ls l) ∙ sym (append_assoc (ended x) (joined ls) (ended l))
+joined-more (x ∷ ls) l = ap (λ (t : List ℕ). ended x ++ t) (joined-more ls l) ∙ sym (append_assoc (ended x) (lines_joined ls) (ended l))
 
 -- the first line that tells of a window
 abbrev head-line : List ℕ
@@ -37,7 +37,7 @@ abbrev heads : Option Window → List (List ℕ)
 heads None = []
 heads (Some w) = head-line ∷ []
 
-heads-are : (w : Option Window) → joined (heads w) ≡ head_text w
+heads-are : (w : Option Window) → lines_joined (heads w) ≡ head_text w
 heads-are None = refl
 heads-are (Some w) = refl
 
@@ -67,7 +67,7 @@ module _ (c : Contents) (q : Query) where
   -- there are no more entries than bytes
   pub few-entries : (block : List ℕ) (es : List Entry) (left : List ℕ) → IsReadSoFar c q block es left → length es + length left ≤ length block
   few-entries block es left r =
-      let whole : length block ≡ length (joined r.before) + length left = ap length r.split ∙ length-append (joined r.before) left in
+      let whole : length block ≡ length (lines_joined r.before) + length left = ap length r.split ∙ length-append (lines_joined r.before) left in
       let few = few-lines r.before in
       let count = r.count in
       omega (arith, whole, few, count)
@@ -87,13 +87,13 @@ module _ (c : Contents) (q : Query) where
     entry-read block es left line rest e r f h read few =
         let one : length es + 1 ≡ 1 + length es = omega arith in
         let same : line ≡ entry_line c q (1 + length es) e = read.is ∙ ap (λ n. entry_line c q n e) one in
-        let next = entry-passed c q plain es (joined r.before) e r.passed read.has few in
+        let next = entry-passed c q plain es (lines_joined r.before) e r.passed read.has few in
         record {
           before = r.before ++ line ∷ [];
           lines = All-push (λ l. is_line l ≡ true) r.before line r.lines h;
-          split = cut-again block (joined r.before) line rest left r.split f ∙ ap (λ (l : List ℕ). l ++ rest) (sym (joined-more r.before line));
+          split = cut-again block (lines_joined r.before) line rest left r.split f ∙ ap (λ (l : List ℕ). l ++ rest) (sym (joined-more r.before line));
           count = let a = length-append r.before (line ∷ []) in let b = length-append es (e ∷ []) in let count = r.count in omega (arith, a, b, count);
-          passed = subst (Passed c q (es ++ e ∷ [])) (ap (λ (l : List ℕ). joined r.before ++ ended l) (sym same) ∙ sym (joined-more r.before line)) next;
+          passed = subst (Passed c q (es ++ e ∷ [])) (ap (λ (l : List ℕ). lines_joined r.before ++ ended l) (sym same) ∙ sym (joined-more r.before line)) next;
           only = only-more 1 es e r.only (λ o has is. read.only o has (same ∙ (is ∙ ap (λ n. entry_line c q n o) (sym one))));
         }
 
@@ -107,8 +107,8 @@ module _ (c : Contents) (q : Query) where
           rest = left;
           split = r.split;
           is = ap (λ n. n + 1) (sym r.count);
-          begins = part-begins c q plain es (joined r.before) r.passed;
-          stops = at_line line rest h f (line-stops c q plain es (joined r.before) line r.passed h (λ e has same. bad.entry e has (same ∙ ap (λ n. entry_line c q n e) one)) bad.best);
+          begins = part-begins c q plain es (lines_joined r.before) r.passed;
+          stops = at_line line rest h f (line-stops c q plain es (lines_joined r.before) line r.passed h (λ e has same. bad.entry e has (same ∙ ap (λ n. entry_line c q n e) one)) bad.best);
         }
 
     pub no-line : (block : List ℕ) (es : List Entry) (left : List ℕ) → IsReadSoFar c q block es left → is_line left ≡ true → IsFaultLine c q block ((head_lines q.window + length es) + 1)
@@ -118,11 +118,11 @@ module _ (c : Contents) (q : Query) where
       rest = left;
       split = r.split;
       is = ap (λ n. n + 1) (sym r.count);
-      begins = part-begins c q plain es (joined r.before) r.passed;
-      stops = at_end h (piece-stops c q plain es (joined r.before) left r.passed h);
+      begins = part-begins c q plain es (lines_joined r.before) r.passed;
+      stops = at_end h (piece-stops c q plain es (lines_joined r.before) left r.passed h);
     }
 
-    behind : (es : List Entry) (part : List ℕ) (s : Side) (rest : List ℕ) → Passed c q es part → (0 < length rest) → (line_end rest < length rest) ⊎ (length rest ≤ line_end rest) → Stops c q (part ++ ended (best_line s)) rest
+    behind : (es : List Entry) (part : List ℕ) (s : Side) (rest : List ℕ) → Passed c q es part → (0 < length rest) → (line_end rest < length rest) ⊎ (length rest ≤ line_end rest) → StopsBehind c q (part ++ ended (best_line s)) rest
     behind es part s [] p some h = absurd (omega (arith, some))
     behind es part s (b ∷ bs) p some (inl lt) =
         let x = cut (b ∷ bs) lt in
@@ -132,23 +132,23 @@ module _ (c : Contents) (q : Query) where
         no-more es part s [] p t = best-stops c q plain es part s 10 [] p t
         no-more es part s (y ∷ ys) p t = best-stops c q plain es part s y (ys ++ codes "\n") p t
     behind es part s (b ∷ bs) p some (inr le) =
-        at_end (whole-line (b ∷ bs) le) (λ t. best-stops c q plain es part s b bs p (record { rest = []; text = subst (IsText c q) (sym (append-nil ((part ++ ended (best_line s)) ++ b ∷ bs))) t }))
+        at_end (whole-line (b ∷ bs) le) (λ t. best-stops c q plain es part s b bs p (record { rest = []; text = subst (IsCertificateText c q) (sym (append-nil ((part ++ ended (best_line s)) ++ b ∷ bs))) t }))
 
     pub best-behind : (block : List ℕ) (es : List Entry) (s : Side) (rest : List ℕ) → IsAtBest c q block es s rest → 0 < length rest → IsFaultLine c q block ((head_lines q.window + length es) + 2)
     best-behind block es s rest at some =
         let r = at.so_far in
         let line = at.line in
-        let part : joined (r.before ++ line ∷ []) ≡ joined r.before ++ ended (best_line s) = joined-more r.before line ∙ ap (λ (l : List ℕ). joined r.before ++ ended l) at.read.is in
+        let part : lines_joined (r.before ++ line ∷ []) ≡ lines_joined r.before ++ ended (best_line s) = joined-more r.before line ∙ ap (λ (l : List ℕ). lines_joined r.before ++ ended l) at.read.is in
         let count = r.count in
         let long = length-append r.before (line ∷ []) in
         record {
           before = r.before ++ line ∷ [];
           lines = All-push (λ l. is_line l ≡ true) r.before line r.lines at.whole;
           rest = rest;
-          split = cut-again block (joined r.before) line rest at.left r.split at.split ∙ ap (λ (l : List ℕ). l ++ rest) (sym (joined-more r.before line));
+          split = cut-again block (lines_joined r.before) line rest at.left r.split at.split ∙ ap (λ (l : List ℕ). l ++ rest) (sym (joined-more r.before line));
           is = omega (arith, count, long);
-          begins = subst (BeginsText c q) (sym part) (record { rest = []; text = subst (IsText c q) (sym (append-nil (joined r.before ++ ended (best_line s)))) (part-ends c q plain es (joined r.before) s r.passed at.read.has) });
-          stops = subst (λ (l : List ℕ). Stops c q l rest) (sym part) (behind es (joined r.before) s rest r.passed some (cases_lt (line_end rest) (length rest)));
+          begins = subst (BeginsText c q) (sym part) (record { rest = []; text = subst (IsCertificateText c q) (sym (append-nil (lines_joined r.before ++ ended (best_line s)))) (part-ends c q plain es (lines_joined r.before) s r.passed at.read.has) });
+          stops = subst (λ (l : List ℕ). StopsBehind c q l rest) (sym part) (behind es (lines_joined r.before) s rest r.passed some (cases_lt (line_end rest) (length rest)));
         }
 
     -- lines that spell the same are of the same entries, where each is the only one with its line
@@ -173,8 +173,8 @@ module _ (c : Contents) (q : Query) where
         let r = at.so_far in
         let line = at.line in
         let empty : rest ≡ [] = nil_from_length rest none in
-        let whole : block ≡ (joined r.before ++ ended line) ++ rest = cut-again block (joined r.before) line rest at.left r.split at.split in
-        let all : block ≡ joined r.before ++ ended (best_line s) = whole ∙ (ap (λ (l : List ℕ). (joined r.before ++ ended line) ++ l) empty ∙ (append-nil (joined r.before ++ ended line) ∙ ap (λ (l : List ℕ). joined r.before ++ ended l) at.read.is)) in
+        let whole : block ≡ (lines_joined r.before ++ ended line) ++ rest = cut-again block (lines_joined r.before) line rest at.left r.split at.split in
+        let all : block ≡ lines_joined r.before ++ ended (best_line s) = whole ∙ (ap (λ (l : List ℕ). (lines_joined r.before ++ ended line) ++ l) empty ∙ (append-nil (lines_joined r.before ++ ended line) ∙ ap (λ (l : List ℕ). lines_joined r.before ++ ended l) at.read.is)) in
         let is : certificate_text c q (record { entries = es; best = s }) ≡ block = sym (all ∙ (ap (λ (l : List ℕ). l ++ ended (best_line s)) r.passed.is ∙ append_assoc (head_text q.window) (entries_text c q 1 es) (ended (best_line s)))) in
         record {
           has = record { few = r.passed.few; lines = r.passed.lines; best = at.read.has };
@@ -208,7 +208,7 @@ module _ (c : Contents) (q : Query) where
             let same = parted head-line line tail rest refl h (e ∙ append_assoc line (codes "\n") rest) in
             other more (is ∙ ap (λ (l : List ℕ). ended l ++ more) (sym same.0))
 
-        by-end : (line_end block < length block) ⊎ (length block ≤ line_end block) → Stops c q [] block
+        by-end : (line_end block < length block) ⊎ (length block ≤ line_end block) → StopsBehind c q [] block
         by-end (inl lt) =
             let x = cut block lt in
             at_line (take (line_end block) block) (drop (suc (line_end block)) block) x.line x.is
@@ -216,8 +216,8 @@ module _ (c : Contents) (q : Query) where
         by-end (inr le) = at_end (whole-line block le) (λ t. none (entries_text c q 1 t.certificate.entries ++ ended (best_line t.certificate.best)) (sym t.is))
 
   -- a block with a wrong line is no text
-  pub fault-is-none : (block : List ℕ) (number : ℕ) → IsFaultLine c q block number → ¬ IsText c q block
-  fault-is-none block number f t = by (joined f.before) f.rest f.split f.stops where
-    by : (part rest : List ℕ) → block ≡ part ++ rest → Stops c q part rest → ⊥
-    by part rest is (at_line line more h split none) = none (record { rest = more; text = subst (IsText c q) (is ∙ (ap (λ (l : List ℕ). part ++ l) split ∙ sym (append_assoc part (ended line) more))) t })
-    by part rest is (at_end h none) = none (subst (IsText c q) is t)
+  pub fault-is-none : (block : List ℕ) (number : ℕ) → IsFaultLine c q block number → ¬ IsCertificateText c q block
+  fault-is-none block number f t = by (lines_joined f.before) f.rest f.split f.stops where
+    by : (part rest : List ℕ) → block ≡ part ++ rest → StopsBehind c q part rest → ⊥
+    by part rest is (at_line line more h split none) = none (record { rest = more; text = subst (IsCertificateText c q) (is ∙ (ap (λ (l : List ℕ). part ++ l) split ∙ sym (append_assoc part (ended line) more))) t })
+    by part rest is (at_end h none) = none (subst (IsCertificateText c q) is t)

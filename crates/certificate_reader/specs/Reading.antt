@@ -11,7 +11,7 @@ use Rattle.plan_check.specs.declared.certificate.Certificate.{Certificate as Cer
 use Rattle.certificate_entries.specs.certificate_text_HasText.{HasEntryLine, HasText}
 use Rattle.certificate_entries.specs.certificate_text_Texts.{certificate_text, ended, entry_line, head_text, is_line}
 use Rattle.certificate_entries.specs.Reading.{IsBestRead}
-use Rattle.certificate_reader.specs.Faults.{IsFaultLine, IsText, joined}
+use Rattle.certificate_reader.specs.Faults.{IsFaultLine, IsCertificateText, lines_joined}
 use Rattle.certificate_reader.specs.Passed.{Passed}
 use Rattle.certificate_reader.specs.declared.block.CertFault.{CertFault}
 use Rattle.certificate_reader.specs.declared.block.CertFault.TheVariants as faults
@@ -56,9 +56,9 @@ module _ (c : Contents) (q : Query) where
   pub record IsReadSoFar (block : List ℕ) (es : List Entry) (left : List ℕ) : Type 0 where
     pub before : List (List ℕ)
     pub lines : All (λ l. is_line l ≡ true) before
-    pub split : block ≡ joined before ++ left
+    pub split : block ≡ lines_joined before ++ left
     pub count : length before ≡ head_lines q.window + length es
-    pub passed : Passed c q es (joined before)
+    pub passed : Passed c q es (lines_joined before)
     pub only : AreOnly 1 es
 
   -- behind the lines of some entries stands that of a best plan, and then the rest
@@ -78,7 +78,7 @@ module _ (c : Contents) (q : Query) where
 
   -- a block is no text, and that is its wrong line; running out of memory says nothing
   abbrev pub IsFault : List ℕ → CertFault → Type 0
-  IsFault block (faults.C1 line) = IsFaultLine c q block line × ¬ IsText c q block
+  IsFault block (faults.C1 line) = IsFaultLine c q block line × ¬ IsCertificateText c q block
   IsFault block faults.Memory = Unit {0}
 
   -- what reading a block comes to: the only certificate of this text, or the wrong line

@@ -10,7 +10,7 @@ use Rattle.plan_check.specs.Verdicts.{IsVerdict}
 use Rattle.plan_check.specs.declared.verdict.Verdict.{Verdict}
 use Rattle.plan_check.specs.declared.verdict.Verdict.TheVariants as verdicts
 use Rattle.reply_text.specs.Texts.{invalid_line}
-use Rattle.check_reply.specs.Checked.{IsCheckedText, IsTableText, IsVerdictLine, fault_text, faulty, judged, valid_line}
+use Rattle.check_reply.specs.Checked.{IsCheckedText, IsTableText, IsVerdictLine, wrong_line_text, faulty, judged, valid_line}
 
 -- no line begins so and so
 apart : (reason rest : List ℕ) → invalid_line reason ≡ codes "valid" ++ rest → ⊥
@@ -22,7 +22,7 @@ module _ (c : Contents) (q : Query) where
   table-said t (verdicts.No r) bytes rest holds told e = absurd (apart told.0 rest (sym told.2 ∙ e))
 
   pub valid-table : (block bytes rest : List ℕ) → IsCheckedText c q block bytes → bytes ≡ codes "valid" ++ rest → IsTableText c q block
-  valid-table block bytes rest (faulty f) e = absurd (apart (fault_text f.line) rest (sym f.told ∙ e))
+  valid-table block bytes rest (faulty f) e = absurd (apart (wrong_line_text f.line) rest (sym f.told ∙ e))
   valid-table block bytes rest (judged j) e = record { certificate = j.certificate; read = j.read; table = table-said j.certificate j.verdict bytes rest j.holds j.told e }
 
   said-of : (t : Certificate) (v : Verdict) (bytes : List ℕ) → IsPlanTable c q t → IsVerdict c q t v → IsVerdictLine c q t v bytes → bytes ≡ valid_line

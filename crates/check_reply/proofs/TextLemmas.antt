@@ -14,7 +14,7 @@ use Rattle.plan_check.specs.declared.verdict.Number.{Number}
 use Rattle.plan_check.specs.declared.verdict.Number.TheVariants.{Startup, Total, Rows}
 use Rattle.plan_check.specs.declared.verdict.Reason.{Reason}
 use Rattle.plan_check.specs.declared.verdict.Reason.TheVariants as reasons
-use Rattle.check_reply.specs.Checked.{HasWords, IsReasonText, bad_node_text, bad_number_text, fault_text, is_uncovered, number_name}
+use Rattle.check_reply.specs.Checked.{HasWords, IsReasonText, bad_node_text, bad_number_text, wrong_line_text, is_uncovered, number_name}
 
 -- a number is given by its digits
 number-same : (n m : ℕ) → n < 2 ^ 64 → m < 2 ^ 64 → decimal n ≡ decimal m → n ≡ m
@@ -34,7 +34,7 @@ name-split Rows Startup x y e = let bad : 114 ≡ 115 = ap (λ (l : List ℕ). g
 name-split Rows Total x y e = let bad : 114 ≡ 99 = ap (λ (l : List ℕ). get_or l 0 0) e in absurd (omega (arith, bad))
 name-split Rows Rows x y e = (refl, ap (λ (l : List ℕ). drop 4 l) e)
 
-pub fault-same : (n m : ℕ) → n < 2 ^ 64 → m < 2 ^ 64 → fault_text n ≡ fault_text m → n ≡ m
+pub fault-same : (n m : ℕ) → n < 2 ^ 64 → m < 2 ^ 64 → wrong_line_text n ≡ wrong_line_text m → n ≡ m
 fault-same n m a b e = number-same n m a b (ap (λ (l : List ℕ). drop 8 l) e)
 
 node-same : (n m : ℕ) → n < 2 ^ 64 → m < 2 ^ 64 → bad_node_text n ≡ bad_node_text m → n ≡ m
@@ -82,8 +82,8 @@ module _ (c : Contents) (q : Query) (t : Certificate) where
   kind-is (reasons.Dominated n m) text h = ap (λ (l : List ℕ). get_or l 1 0) h
   kind-is (reasons.NotBest printed own) text h = ap (λ (l : List ℕ). get_or l 1 0) h
 
-  pub no-fault : (r : Reason) (n : ℕ) → IsReasonText c q t r (fault_text n) → ⊥
-  no-fault r n h = by r (kind-is r (fault_text n) h)
+  pub no-fault : (r : Reason) (n : ℕ) → IsReasonText c q t r (wrong_line_text n) → ⊥
+  no-fault r n h = by r (kind-is r (wrong_line_text n) h)
     where
       by : (o : Reason) → 49 ≡ kind o → ⊥
       by (reasons.BadNode n) e = omega (arith, e)

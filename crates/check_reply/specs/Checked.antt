@@ -8,7 +8,7 @@ use Rattle.plan_check.specs.Certificates.{Certificate, Entry}
 use Rattle.plan_check.specs.Tables.{IsEntryAt, IsPlanTable}
 use Rattle.certificate_check.specs.certificate_text_HasText.{HasEntryLine}
 use Rattle.certificate_check.specs.certificate_text_Texts.{ended, entry_text}
-use Rattle.certificate_reader.specs.Faults.{IsFaultLine, IsText}
+use Rattle.certificate_reader.specs.Faults.{IsFaultLine, IsCertificateText}
 use Rattle.certificate_reader.specs.Reading.{IsBlockRead}
 use Rattle.plan_check.specs.Verdicts.{IsUncovered, IsVerdict}
 use Rattle.plan_check.specs.declared.verdict.Number.{Number}
@@ -24,8 +24,8 @@ abbrev pub valid_line : List ℕ
 valid_line = ended (codes "valid")
 
 -- no certificate's text, with its first wrong line
-abbrev pub fault_text : ℕ → List ℕ
-fault_text line = codes "C1 line " ++ decimal line
+abbrev pub wrong_line_text : ℕ → List ℕ
+wrong_line_text line = codes "C1 line " ++ decimal line
 
 -- an entry that is not as it says; entry 0 is the best plan
 abbrev pub bad_node_text : ℕ → List ℕ
@@ -94,7 +94,7 @@ module _ (c : Contents) (q : Query) where
 
   -- a block is the text of a certificate, and of no other one, and bytes are the line of a verdict on it: that it is a
   -- table, or the first reason for which it is none
-  pub record IsJudged (block bytes : List ℕ) : Type 0 where
+  pub record IsBlockJudged (block bytes : List ℕ) : Type 0 where
     pub certificate : Certificate
     pub read : IsBlockRead c q block certificate
     pub verdict : Verdict
@@ -105,13 +105,13 @@ module _ (c : Contents) (q : Query) where
   pub record IsFaulty (block bytes : List ℕ) : Type 0 where
     pub line : ℕ
     pub at : IsFaultLine c q block line
-    pub none : ¬ IsText c q block
-    pub told : bytes ≡ invalid_line (fault_text line)
+    pub none : ¬ IsCertificateText c q block
+    pub told : bytes ≡ invalid_line (wrong_line_text line)
 
   -- what CHECK prints of a block that is given for a certificate of a query
   pub data IsCheckedText (block bytes : List ℕ) : Type 0 where
     faulty : IsFaulty block bytes → IsCheckedText block bytes
-    judged : IsJudged block bytes → IsCheckedText block bytes
+    judged : IsBlockJudged block bytes → IsCheckedText block bytes
 
   -- the block is the text of a certificate that is a table of the query
   pub record IsTableText (block : List ℕ) : Type 0 where

@@ -106,7 +106,7 @@ fn judged_line(
 /// The line of a block that is no certificate's text. The error means out of memory.
 fn unread_line(alloc: Global, fault: CertFault) -> Result<Vec<u8>, Memory>
     ensures { IfOk result (λ text.
-        (n : ℕ) × (fault ≡ faults.C1 n) × (text.items ≡ lines.invalid_line (texts.fault_text n))) }
+        (n : ℕ) × (fault ≡ faults.C1 n) × (text.items ≡ lines.invalid_line (texts.wrong_line_text n))) }
 {
     match fault {
         CertFault::C1 { line } => {

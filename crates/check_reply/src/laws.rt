@@ -4,7 +4,7 @@ ghost use Rattle.std.specs.Prelude.{◌≡◌, ◌<◌, ◌^◌, ◌++◌, ℕ, 
 ghost use Rattle.catalog.specs.Contents.{Contents};
 ghost use Rattle.sql_query.specs.Queries.{Query};
 ghost use Rattle.plan_check.specs.Certificates.{Certificate};
-ghost use Rattle.check_reply.specs.Checked.{HasWords, IsCheckedText, IsReasonText, IsTableText, fault_text, is_uncovered, valid_line};
+ghost use Rattle.check_reply.specs.Checked.{HasWords, IsCheckedText, IsReasonText, IsTableText, wrong_line_text, is_uncovered, valid_line};
 ghost use Rattle.plan_check.specs.declared.verdict.Reason.{Reason};
 
 /// A line that begins with `valid` is printed of the text of a certificate that is a table of the query alone, and that line
@@ -23,7 +23,7 @@ pub fn reasons_have_their_own_texts()
         HasWords r → HasWords o →
         is_uncovered r ≡ false → IsReasonText c q t r text → IsReasonText c q t o text → r ≡ o }
     ensures faults { (c : Contents) (q : Query) (t : Certificate) (r : Reason) (line : ℕ) →
-        ¬ IsReasonText c q t r (fault_text line) }
+        ¬ IsReasonText c q t r (wrong_line_text line) }
     ensures lines { (line other : ℕ) → line < 2 ^ 64 → other < 2 ^ 64 →
-        fault_text line ≡ fault_text other → line ≡ other }
+        wrong_line_text line ≡ wrong_line_text other → line ≡ other }
 {}

@@ -9,7 +9,7 @@ use std::alloc::Global;
 
 /// The text that a block is no certificate's text, with the first wrong line.
 pub(crate) fn fault_text(alloc: Global, line: u32) -> Result<Vec<u8>, Memory>
-    ensures { IfOk result (λ text. text.items ≡ texts.fault_text line) }
+    ensures { IfOk result (λ text. text.items ≡ texts.wrong_line_text line) }
 {
     let text = format!(in alloc; "C1 line {line}")?;
     Ok(text.into_bytes())

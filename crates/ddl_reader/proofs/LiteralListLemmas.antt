@@ -9,7 +9,7 @@ use Rattle.sql_lex.specs.declared.tokens.Token.{Token}
 use Rattle.sql_grammar.specs.declared.class.Free.TheVariants.{Common as CommonWord, Histogram as HistogramWord}
 use Rattle.sql_grammar.specs.declared.class.Symbol.TheVariants.{Close}
 use Rattle.sql_grammar.specs.Terminals.{Terminal, Said, free, t_mark, t_name, t_number}
-use Rattle.sql_grammar.specs.Syntax.{Mark, Lit, Share, share, Common, no_common, common, Histogram, no_histogram, histogram}
+use Rattle.sql_grammar.specs.Syntax.{Mark, Lit, Share, share, CommonPart, no_common, common, Histogram, no_histogram, histogram}
 use Rattle.sql_grammar.specs.Words.{words_of_lit, words_of_share, words_of_shares, words_of_common, words_of_bounds, words_of_histogram}
 use Rattle.expr_reader.specs.declared.cursor.Number.{Number}
 use Rattle.expr_reader.specs.Reading.{numbered, BeginsNot, BeginsNumber}
@@ -91,19 +91,19 @@ no-bounds no_histogram rest old other e = (refl, e)
 no-bounds (histogram k o l ls m) rest old other e = absurd (other _ (k, e))
 
 -- common values that are there, whose words after COMMON are these
-pub record HasShares (c : Common) (rest left : List Terminal) : Type 0 where
+pub record HasShares (c : CommonPart) (rest left : List Terminal) : Type 0 where
   pub first : Share
   pub further : List (Mark × Share)
   pub close : Mark
   pub is : commons_of c ≡ common_words first ∷ further_parts common_words further
   pub words : drop 1 left ≡ words_of_shares_left first further close rest
 
-pub has-shares : (c : Common) (rest old left : List Terminal) (token : Token) → ends_common rest ≡ true → old ≡ t_name (free CommonWord token) ∷ left → old ≡ words_of_common c ++ rest → HasShares c rest left
+pub has-shares : (c : CommonPart) (rest old left : List Terminal) (token : Token) → ends_common rest ≡ true → old ≡ t_name (free CommonWord token) ∷ left → old ≡ words_of_common c ++ rest → HasShares c rest left
 has-shares no_common rest old left token ends is e = let wrong = ap ends_common (sym is ∙ e) ∙ ends in absurd (cc (wrong))
 has-shares (common k o s ss m) rest old left token ends is e =
     record { first = s; further = ss; close = m; is = refl; words = ap (drop 2) (sym is ∙ e) ∙ closes (words_of_share s) (words_of_shares ss) rest m }
 
-pub no-shares : (c : Common) (rest old : List Terminal) → BeginsNot (λ token. t_name (free CommonWord token)) old → old ≡ words_of_common c ++ rest → (commons_of c ≡ []) × (old ≡ rest)
+pub no-shares : (c : CommonPart) (rest old : List Terminal) → BeginsNot (λ token. t_name (free CommonWord token)) old → old ≡ words_of_common c ++ rest → (commons_of c ≡ []) × (old ≡ rest)
 no-shares no_common rest old other e = (refl, e)
 no-shares (common k o s ss m) rest old other e = absurd (other _ (k, e))
 

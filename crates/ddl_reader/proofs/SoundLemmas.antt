@@ -25,7 +25,7 @@ use Rattle.ddl_reader.specs.declared.ddl.Read.{Read}
 use Rattle.ddl_reader.specs.Types.{type_named}
 use Rattle.ddl_reader.specs.Columns.{Written, BoundColumn, defined_column, further, bound_column, bound_by, bound_all}
 use Rattle.ddl_reader.specs.Statistics.{commons_of, bounds_of}
-use Rattle.ddl_reader.specs.Tables.{Reading, data_for, table_reading, limited_columns, bound_table, data_of, data_after}
+use Rattle.ddl_reader.specs.Tables.{Reading, data_for, table_reading, limited_columns, bound_table, data_for_named, data_after}
 use Rattle.pg_value.specs.Fields.{null_text}
 use Rattle.ddl_reader.specs.Statements.{Means, IsMeaning}
 use Rattle.ddl_reader.specs.Readings.{reading}
@@ -129,7 +129,7 @@ module _ (cat : Contents) (text : List ℕ) where
   text-sound t start r f true there within is = let same : record { definition = data_for t start; at = [] } ≡ r = cc (is) in subst (IsSound cat text) same (there, within)
   text-sound t start r f false there within is = absurd (cc (is))
 
-  of-sound : (name : List ℕ) (name_at null_at : Token) (null : List ℕ) (start : ℕ) (r : Reading) (o : Option TableNo) → table_named cat name ≡ o → start ≤ length text → Ok r ≡ data_of o name_at null null_at start → IsSound cat text r
+  of-sound : (name : List ℕ) (name_at null_at : Token) (null : List ℕ) (start : ℕ) (r : Reading) (o : Option TableNo) → table_named cat name ≡ o → start ≤ length text → Ok r ≡ data_for_named o name_at null null_at start → IsSound cat text r
   of-sound name name_at null_at null start r None is within means = absurd (cc (means))
   of-sound name name_at null_at null start r (Some t) is within means = text-sound t start r _ (bytes_eq null null_text) (known-table cat text name t _ refl is) within means
 

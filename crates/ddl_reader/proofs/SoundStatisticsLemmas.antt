@@ -16,7 +16,7 @@ use Rattle.pg_value.specs.declared.value.Value.{Value}
 use Rattle.sql_lex.specs.declared.tokens.Token.{Token}
 use Rattle.sql_grammar.specs.declared.class.Symbol.TheVariants.{Close}
 use Rattle.sql_grammar.specs.Terminals.{Terminal, Ident, Said, token_of, t_mark, t_number}
-use Rattle.sql_grammar.specs.Syntax.{Mark, Lit, number, negative, quoted, constant, Share, share, Common, no_common, common, Histogram, no_histogram, histogram}
+use Rattle.sql_grammar.specs.Syntax.{Mark, Lit, number, negative, quoted, constant, Share, share, CommonPart, no_common, common, Histogram, no_histogram, histogram}
 use Rattle.sql_grammar.specs.Words.{words_of_lit, words_of_share, words_of_shares, words_of_common, words_of_bounds, words_of_histogram}
 use Rattle.sql_grammar.specs.Faults.{bytes_of}
 use Rattle.sql_grammar.specs.Unique.{token_in}
@@ -27,7 +27,7 @@ use Rattle.catalog.specs.Indexes.{type_at}
 use Rattle.catalog.specs.Statistics.{IsValueOf}
 use Rattle.catalog.specs.Tables.{table_named, column_named}
 use Rattle.expr_reader.specs.Lists.{further_parts, bound_each}
-use Rattle.ddl_reader.specs.Statistics.{CommonWords, common_words, commons_of, bounds_of, common_value, known, number_of_32, number_of_64, start_of, start_of_lit, starts_of_common, places_of, sizes_reading, statistics_of, column_of_name, stated_rows, column_statistics_of, analysis, analysis_reading}
+use Rattle.ddl_reader.specs.Statistics.{CommonWords, common_words, commons_of, bounds_of, common_value, known, number_of_32, number_of_64, start_of, start_of_lit, starts_of_common, places_of, sizes_reading, statistics_reading, column_of_name, stated_rows, column_statistics_of, analysis, analysis_reading}
 use Rattle.ddl_reader.specs.Tables.{Reading, statistics_for}
 use Rattle.ddl_reader.specs.Soundness.{IsSound}
 use Rattle.ddl_reader.proofs.ListLemmas.{each-same}
@@ -69,7 +69,7 @@ module _ (most : ℕ) where
       let (one, more) = split most (words_of_share s) (words_of_shares ss) h.1 in
       share-within s (flat_map starts_of_common (further_parts common_words ss) ++ ns) one (shares-within ss ns more low)
 
-  common-within : (c : Common) (ns : List ℕ) → AreWithin most (words_of_common c) → Low ns → Low (flat_map starts_of_common (commons_of c) ++ ns)
+  common-within : (c : CommonPart) (ns : List ℕ) → AreWithin most (words_of_common c) → Low ns → Low (flat_map starts_of_common (commons_of c) ++ ns)
   common-within no_common ns h low = low
   common-within (common k o s ss m) ns h low =
       let (one, rest) = split most (words_of_share s) (words_of_shares ss ++ t_mark Close m ∷ []) h.1.1 in
@@ -89,7 +89,7 @@ module _ (most : ℕ) where
       let (more, last) = split most (words_of_bounds ls) (t_mark Close m ∷ []) rest in
       All-cons (λ a. a ≤ most) (start_of_lit l) (map start_of_lit (further_parts (λ x. x) ls)) (lit-within l one) (bounds-within ls more)
 
-  pub places-within : (d z : Said) (c : Common) (h : Histogram) (rest : List Terminal) → d.token.start ≤ most → z.token.start ≤ most → AreWithin most (words_of_common c ++ (words_of_histogram h ++ rest)) →
+  pub places-within : (d z : Said) (c : CommonPart) (h : Histogram) (rest : List Terminal) → d.token.start ≤ most → z.token.start ≤ most → AreWithin most (words_of_common c ++ (words_of_histogram h ++ rest)) →
       Low (places_of d z (commons_of c) (bounds_of h))
   places-within d z c h rest distinct nulls lists =
       let (commons, more) = split most (words_of_common c) (words_of_histogram h ++ rest) lists in
@@ -194,7 +194,7 @@ module _ (cat : Contents) (text : List ℕ) where
   pub column-sound : (n c : Ident) (d z : Said) (ws : List CommonWords) (ls : List Lit) (r : Reading) → IsLawful cat → All (λ a. a ≤ length text) (places_of d z ws ls) →
       Ok r ≡ column_statistics_of cat n c d z ws ls → IsSound cat text r
   column-sound n c d z ws ls r lawful low is =
-      let (t, named, e) = known-is S2 (token_of n) (table_named cat (bytes_of n)) (λ t. next (column_of_name cat t c) (λ col. statistics_of (type_at (table_at cat t).columns col) t col d z ws ls)) r is in
-      let (col, titled, f) = known-is S3 (token_of c) (column_named cat t (bytes_of c)) (λ col. statistics_of (type_at (table_at cat t).columns col) t col d z ws ls) r e in
+      let (t, named, e) = known-is S2 (token_of n) (table_named cat (bytes_of n)) (λ t. next (column_of_name cat t c) (λ col. statistics_reading (type_at (table_at cat t).columns col) t col d z ws ls)) r is in
+      let (col, titled, f) = known-is S3 (token_of c) (column_named cat t (bytes_of c)) (λ col. statistics_reading (type_at (table_at cat t).columns col) t col d z ws ls) r e in
       let table = known-table (bytes_of n) t _ refl named in
       lists-sound t col d z ws ls r _ _ table (known-column t (bytes_of c) col _ lawful table refl titled) low refl refl f

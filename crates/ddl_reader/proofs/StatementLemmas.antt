@@ -8,7 +8,7 @@ use Rattle.sql_grammar.specs.declared.class.Word.TheVariants.{Create}
 use Rattle.sql_grammar.specs.declared.class.Free.TheVariants.{Analyze, Distinct, Nulls as NullsWord, Pages, Rows, Statistics}
 use Rattle.sql_grammar.specs.declared.class.Symbol.TheVariants.{Dot, Open}
 use Rattle.sql_grammar.specs.Terminals.{Terminal, Ident, Said, free, token_of, t_key, t_mark, t_name}
-use Rattle.sql_grammar.specs.Syntax.{Key, Mark, ColDef, CopyWords, Common, Histogram, Ending, Statement, empty, create_table, create_index, query, copy, sizes, column_statistics, analyze, semicolon, text_end, index_on, no_explain, explain, explain_table, ordered_select, select_from, advise, advise_of, check, use_plan, unexplained, explained, grouped}
+use Rattle.sql_grammar.specs.Syntax.{Key, Mark, ColDef, CopyWords, CommonPart, Histogram, Ending, Statement, empty, create_table, create_index, query, copy, sizes, column_statistics, analyze, semicolon, text_end, index_on, no_explain, explain, explain_table, ordered_select, select_from, advise, advise_of, check, use_plan, unexplained, explained, grouped}
 use Rattle.sql_grammar.specs.Words.{words_of, words_of_ending}
 use Rattle.sql_grammar.specs.Faults.{bytes_of, terminals, IsWhole}
 use Rattle.sql_grammar.specs.CopyLine.{IsDataStart}
@@ -156,7 +156,7 @@ module _ (cat : Contents) (text : List ℕ) where
   -- statistics that are read
   pub statistics-as : (x : Statement) (token : Token) (left : List Terminal) (r : Result Read Refusal) → words_of x ≡ t_name (free Statistics token) ∷ left →
       ((t k : Ident) (rows : Said) (b : Terminal) (pages : Said) (rest : List Terminal) → left ≡ t_name t ∷ words_of_sizes k rows b pages rest → IsAsMeant Read Reading reading r (stated_rows cat t rows pages)) →
-      ((t : Ident) (m : Mark) (c : Ident) (a : Terminal) (d : Said) (b : Terminal) (n : Said) (cs : Common) (h : Histogram) (rest : List Terminal) → ends_common rest ≡ true → ends_histogram rest ≡ true →
+      ((t : Ident) (m : Mark) (c : Ident) (a : Terminal) (d : Said) (b : Terminal) (n : Said) (cs : CommonPart) (h : Histogram) (rest : List Terminal) → ends_common rest ≡ true → ends_histogram rest ≡ true →
       left ≡ t_name t ∷ t_mark Dot m ∷ words_of_column c a d b n cs h rest → IsAsMeant Read Reading reading r (column_statistics_of cat t c d n (commons_of cs) (bounds_of h))) →
       ReadsAs cat text x r
   statistics-as (sizes k n rows pages e) token left r is table column =

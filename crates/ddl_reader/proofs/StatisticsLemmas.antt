@@ -16,7 +16,7 @@ use Rattle.expr_reader.specs.Conditions.{next}
 use Rattle.ddl_reader.specs.declared.literals.CommonRead.{CommonRead}
 use Rattle.ddl_reader.specs.declared.statistics.Counted.{Counted}
 use Rattle.expr_reader.specs.Lists.{bound_each}
-use Rattle.ddl_reader.specs.Statistics.{CommonWords, common_value, number_of_32, start_of, start_of_lit, starts_of_common, statistics_of}
+use Rattle.ddl_reader.specs.Statistics.{CommonWords, common_value, number_of_32, start_of, start_of_lit, starts_of_common, statistics_reading}
 use Rattle.ddl_reader.specs.AsMeant.{placed, common_placed, common_seen, starts_seen, value_seen, start_seen}
 use Rattle.ddl_reader.specs.Readings.{statistics_read}
 use Rattle.ddl_reader.proofs.ListLemmas.{each-ok, each-err, each-same}
@@ -79,13 +79,13 @@ module _ (t : SqlType) where
   module _ (k : Counted) (d n : Said) (ws : List CommonWords) (ls : List Lit) where
     -- all literals are bound
     pub statistics-ok : (cs : List CommonRead) (ps : List Placed) → k.distinct ≡ numbered d → k.nulls ≡ numbered n → bound_each (common_placed t) ws ≡ Ok cs → bound_each (placed t) ls ≡ Ok ps →
-        statistics_of t k.table k.col d n ws ls ≡ Ok (statistics_read k cs ps)
+        statistics_reading t k.table k.col d n ws ls ≡ Ok (statistics_read k cs ps)
     statistics-ok cs ps distinct nulls commons bounds =
         rw (shares-ok ws cs commons, bounds-ok ls ps bounds, shares-placed ws cs commons, bounds-placed ls ps bounds, distinct, nulls, narrowed (digits_value 10 n.value)) refl
 
     -- a common value is wrong, or a bound is
-    pub common-err : (f : Fault) → bound_each (common_placed t) ws ≡ Err f → statistics_of t k.table k.col d n ws ls ≡ Err f
+    pub common-err : (f : Fault) → bound_each (common_placed t) ws ≡ Err f → statistics_reading t k.table k.col d n ws ls ≡ Err f
     common-err f wrong = rw (shares-err ws f wrong) refl
 
-    pub bound-err : (cs : List CommonRead) (f : Fault) → bound_each (common_placed t) ws ≡ Ok cs → bound_each (placed t) ls ≡ Err f → statistics_of t k.table k.col d n ws ls ≡ Err f
+    pub bound-err : (cs : List CommonRead) (f : Fault) → bound_each (common_placed t) ws ≡ Ok cs → bound_each (placed t) ls ≡ Err f → statistics_reading t k.table k.col d n ws ls ≡ Err f
     bound-err cs f commons wrong = rw (shares-ok ws cs commons, bounds-err ls f wrong) refl

@@ -10,10 +10,10 @@ use Rattle.pg_value.specs.Fields.{ranged, flagged, field_value, number_of, flag_
 use Rattle.pg_value.specs.Types.{in_range}
 use Rattle.sql_lex.specs.declared.tokens.Token.{Token}
 use Rattle.sql_grammar.specs.Syntax.{Lit, number, negative, quoted, constant, yes, no, unknown}
-use Rattle.expr_reader.specs.Literals.{value_at, number_as, flag_as, typed_value, written}
+use Rattle.expr_reader.specs.Literals.{value_or_fault, number_as, flag_as, typed_value, written}
 use Rattle.catalog.specs.Statistics.{IsValueOf}
 
-value-by : (m : Result Value FieldFault) (token : Token) (v : Value) → value_at token m ≡ Ok v → m ≡ Ok v
+value-by : (m : Result Value FieldFault) (token : Token) (v : Value) → value_or_fault token m ≡ Ok v → m ≡ Ok v
 value-by (Ok w) token v is = cc (is)
 value-by (Err Range) token v is = absurd (cc (is))
 value-by (Err Invalid) token v is = absurd (cc (is))

@@ -7,7 +7,7 @@ use Rattle.pg_base.specs.declared.faults.Refusal.TheVariants as refusal
 use Rattle.sql_grammar.specs.declared.class.Word.TheVariants.{Not, Null}
 use Rattle.sql_grammar.specs.declared.class.Symbol.TheVariants.{Close, Dot, Open}
 use Rattle.sql_grammar.specs.Terminals.{Terminal, Ident, Said, free, t_key, t_mark, t_name, t_number}
-use Rattle.sql_grammar.specs.Syntax.{Mark, ColDef, Lit, Share, Common, Histogram}
+use Rattle.sql_grammar.specs.Syntax.{Mark, ColDef, Lit, Share, CommonPart, Histogram}
 use Rattle.sql_grammar.specs.Words.{words_of_coldef, words_of_columns, words_of_lit, words_of_share, words_of_shares, words_of_bounds, words_of_common, words_of_histogram}
 use Rattle.sql_grammar.specs.declared.class.Free.TheVariants.{Common as CommonWord, Histogram as HistogramWord}
 use Rattle.pg_value.specs.declared.value.SqlType.{SqlType}
@@ -92,11 +92,11 @@ abbrev pub words_of_sizes : Ident → Said → Terminal → Said → List Termin
 words_of_sizes r rows b pages rest = t_name r ∷ t_number rows ∷ b ∷ t_number pages ∷ rest
 
 -- the two lists of literals of a column, each of which may be left out, and what follows
-abbrev pub words_of_lists : Common → Histogram → List Terminal → List Terminal
+abbrev pub words_of_lists : CommonPart → Histogram → List Terminal → List Terminal
 words_of_lists cs h rest = words_of_common cs ++ (words_of_histogram h ++ rest)
 
 -- the words of STATISTICS of a column from its name on, with its lists of literals, and what follows
-abbrev pub words_of_column : Ident → Terminal → Said → Terminal → Said → Common → Histogram → List Terminal → List Terminal
+abbrev pub words_of_column : Ident → Terminal → Said → Terminal → Said → CommonPart → Histogram → List Terminal → List Terminal
 words_of_column c a d b n cs h rest = t_name c ∷ a ∷ t_number d ∷ b ∷ t_number n ∷ words_of_lists cs h rest
 
 -- the words of STATISTICS of a table from ROWS on are all that is left
@@ -108,13 +108,13 @@ SpellsSizesPart ts =
 -- the two lists of literals of a column stand first, and no word behind them begins another one
 abbrev pub SpellsLists : List Terminal → Type 0
 SpellsLists ts =
-    (cs : Common) × (h : Histogram) × (rest : List Terminal) × (ends_common rest ≡ true) × (ends_histogram rest ≡ true) ×
+    (cs : CommonPart) × (h : Histogram) × (rest : List Terminal) × (ends_common rest ≡ true) × (ends_histogram rest ≡ true) ×
     (ts ≡ words_of_lists cs h rest)
 
 -- the words of STATISTICS of a column from its name on are all that is left: no list of literals follows them
 abbrev pub SpellsColumnPart : List Terminal → Type 0
 SpellsColumnPart ts =
-    (c : Ident) × (a : Terminal) × (d : Said) × (b : Terminal) × (n : Said) × (cs : Common) × (h : Histogram) ×
+    (c : Ident) × (a : Terminal) × (d : Said) × (b : Terminal) × (n : Said) × (cs : CommonPart) × (h : Histogram) ×
     (rest : List Terminal) ×
     (ends_common rest ≡ true) × (ends_histogram rest ≡ true) × (ts ≡ words_of_column c a d b n cs h rest)
 
@@ -125,7 +125,7 @@ SpellsSizes ts = (t : Ident) × (r : Ident) × (rows : Said) × (b : Terminal) �
 -- the words of STATISTICS of a column, from the table's name on: no list of literals follows them
 abbrev pub SpellsColumn : List Terminal → Type 0
 SpellsColumn ts =
-    (t : Ident) × (m : Mark) × (c : Ident) × (a : Terminal) × (d : Said) × (b : Terminal) × (n : Said) × (cs : Common) × (h : Histogram) × (rest : List Terminal) ×
+    (t : Ident) × (m : Mark) × (c : Ident) × (a : Terminal) × (d : Said) × (b : Terminal) × (n : Said) × (cs : CommonPart) × (h : Histogram) × (rest : List Terminal) ×
     (ends_common rest ≡ true) × (ends_histogram rest ≡ true) × (ts ≡ t_name t ∷ t_mark Dot m ∷ words_of_column c a d b n cs h rest)
 
 -- a common value that is read, with its share, which is cut to what its field holds

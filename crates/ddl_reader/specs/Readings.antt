@@ -6,7 +6,7 @@ use Rattle.pg_base.specs.declared.faults.Refusal.TheVariants as refusal
 use Rattle.sql_lex.specs.declared.tokens.Token.{Token}
 use Rattle.sql_grammar.specs.declared.class.Symbol.TheVariants.{Dot, Open}
 use Rattle.sql_grammar.specs.Terminals.{Terminal, Ident, Said, token_of, t_mark, t_name}
-use Rattle.sql_grammar.specs.Syntax.{Mark, ColDef, Common, Histogram, CopyWords, copy, Statement}
+use Rattle.sql_grammar.specs.Syntax.{Mark, ColDef, CommonPart, Histogram, CopyWords, copy, Statement}
 use Rattle.sql_grammar.specs.Words.{words_of}
 use Rattle.sql_grammar.specs.Faults.{bytes_of, IsStatement, IsFirstFault}
 use Rattle.catalog.specs.Contents.{Contents, table_at}
@@ -25,7 +25,7 @@ use Rattle.expr_reader.specs.declared.value.Placed.{Placed}
 use Rattle.expr_reader.specs.Conditions.{next}
 use Rattle.expr_reader.specs.Reading.{numbered}
 use Rattle.ddl_reader.specs.Columns.{defined_column, further, bound_all}
-use Rattle.ddl_reader.specs.Statistics.{sizes_reading, statistics_of, column_of_name, stated_rows, column_statistics_of, commons_of, bounds_of}
+use Rattle.ddl_reader.specs.Statistics.{sizes_reading, statistics_reading, column_of_name, stated_rows, column_statistics_of, commons_of, bounds_of}
 use Rattle.ddl_reader.specs.AsMeant.{IsAsMeant, ends_common, ends_histogram, words_of_body, words_of_sizes, words_of_lists, words_of_column, common_seen, starts_seen, value_seen, start_seen}
 use Rattle.ddl_reader.specs.Tables.{Definition, table, sizes_for, statistics_for, data_for, analysis_of, bound_table, Reading}
 
@@ -91,19 +91,19 @@ ReadsTable ts read =
 -- the lists of literals of a column of this type are read as they mean
 abbrev pub ReadsLists : SqlType → Counted → List Terminal → Result Read Refusal → Type 0
 ReadsLists t counted ts read =
-    (d n : Said) (cs : Common) (h : Histogram) (rest : List Terminal) → counted.distinct ≡ numbered d →
+    (d n : Said) (cs : CommonPart) (h : Histogram) (rest : List Terminal) → counted.distinct ≡ numbered d →
     counted.nulls ≡ numbered n →
     ends_common rest ≡ true → ends_histogram rest ≡ true → ts ≡ words_of_lists cs h rest →
-    IsReadingOf read (statistics_of t counted.table counted.col d n (commons_of cs) (bounds_of h))
+    IsReadingOf read (statistics_reading t counted.table counted.col d n (commons_of cs) (bounds_of h))
 
 -- STATISTICS of a column of a table from the column's name on is read as it means
 abbrev pub ReadsColumnPart : Contents → TableNo → List Terminal → Result Read Refusal → Type 0
 ReadsColumnPart cat t ts read =
-    (c : Ident) (a : Terminal) (d : Said) (b : Terminal) (n : Said) (cs : Common) (h : Histogram) (rest : List Terminal) →
+    (c : Ident) (a : Terminal) (d : Said) (b : Terminal) (n : Said) (cs : CommonPart) (h : Histogram) (rest : List Terminal) →
     ends_common rest ≡ true → ends_histogram rest ≡ true → ts ≡ words_of_column c a d b n cs h rest →
     IsReadingOf read
     (next (column_of_name cat t c)
-    (λ col. statistics_of (type_at (table_at cat t).columns col) t col d n (commons_of cs) (bounds_of h)))
+    (λ col. statistics_reading (type_at (table_at cat t).columns col) t col d n (commons_of cs) (bounds_of h)))
 
 -- STATISTICS of a table from ROWS on is read as it means
 abbrev pub ReadsSizesPart : TableNo → List Terminal → Result Read Refusal → Type 0
@@ -121,7 +121,7 @@ ReadsSizes cat ts read =
 -- STATISTICS of a column from the table's name on is read as it means
 abbrev pub ReadsColumnStatistics : Contents → List Terminal → Result Read Refusal → Type 0
 ReadsColumnStatistics cat ts read =
-    (t : Ident) (m : Mark) (c : Ident) (a : Terminal) (d : Said) (b : Terminal) (n : Said) (cs : Common) (h : Histogram)
+    (t : Ident) (m : Mark) (c : Ident) (a : Terminal) (d : Said) (b : Terminal) (n : Said) (cs : CommonPart) (h : Histogram)
     (rest : List Terminal) →
     ends_common rest ≡ true → ends_histogram rest ≡ true → ts ≡ t_name t ∷ t_mark Dot m ∷ words_of_column c a d b n cs h rest →
     IsReadingOf read (column_statistics_of cat t c d n (commons_of cs) (bounds_of h))

@@ -11,7 +11,7 @@ use Rattle.pg_value.specs.declared.value.SqlType.{SqlType}
 use Rattle.pg_value.specs.declared.value.Value.{Value}
 use Rattle.sql_lex.specs.declared.tokens.Token.{Token}
 use Rattle.sql_grammar.specs.Terminals.{Ident, Said, token_of}
-use Rattle.sql_grammar.specs.Syntax.{Lit, Share, share, Common, no_common, common, Histogram, no_histogram, histogram}
+use Rattle.sql_grammar.specs.Syntax.{Lit, Share, share, CommonPart, no_common, common, Histogram, no_histogram, histogram}
 use Rattle.sql_grammar.specs.Faults.{bytes_of, fault_at}
 use Rattle.expr_reader.specs.declared.cursor.Spelled.{Spelled}
 use Rattle.expr_reader.specs.Literals.{typed_value, place_of_lit}
@@ -48,7 +48,7 @@ abbrev pub common_words : Share → CommonWords
 common_words (share l n) = (l, n)
 
 -- the common values of COMMON from the left, none where it is left out
-abbrev pub commons_of : Common → List CommonWords
+abbrev pub commons_of : CommonPart → List CommonWords
 commons_of no_common = []
 commons_of (common _ _ s ss _) = common_words s ∷ further_parts common_words ss
 
@@ -98,8 +98,8 @@ abbrev pub column_spelled : Contents → TableNo → Spelled → Result ColNo Fa
 column_spelled cat t name = known S3 name.token (column_named cat t name.bytes)
 
 -- what is known of a column of this type of a table: all literals are bound, from the left
-abbrev pub statistics_of : SqlType → TableNo → ColNo → Said → Said → List CommonWords → List Lit → Result Reading Fault
-statistics_of type t col distinct nulls commons bounds =
+abbrev pub statistics_reading : SqlType → TableNo → ColNo → Said → Said → List CommonWords → List Lit → Result Reading Fault
+statistics_reading type t col distinct nulls commons bounds =
     next (bound_each (common_value type) commons) (λ values.
     next (bound_each (typed_value type) bounds) (λ limits. Ok (record {
       definition = statistics_for t col (record { distinct = number_of_64 distinct; nulls = number_of_32 nulls; common = values; histogram = limits });
@@ -114,7 +114,7 @@ stated_rows cat n rows pages = next (table_of_name cat n) (λ t. Ok (sizes_readi
 abbrev pub column_statistics_of : Contents → Ident → Ident → Said → Said → List CommonWords → List Lit → Result Reading Fault
 column_statistics_of cat n c distinct nulls commons bounds =
     next (table_of_name cat n) (λ t.
-    next (column_of_name cat t c) (λ col. statistics_of (type_at (table_at cat t).columns col) t col distinct nulls commons bounds))
+    next (column_of_name cat t c) (λ col. statistics_reading (type_at (table_at cat t).columns col) t col distinct nulls commons bounds))
 
 -- what is read of ANALYZE of a table: no refusal of the catalogue has a place
 abbrev pub analysis_reading : TableNo → Reading

@@ -51,20 +51,20 @@ bound_table name token (Ok bs) = limited_columns (table_reading name token bs) (
 
 -- data for a table: of this number where its name is known, from this offset on, with this text for NULL; each of the two
 -- words with its token
-abbrev pub data_of : Option TableNo → Token → List ℕ → Token → ℕ → Result Reading Fault
-data_of None name_at null null_at start = Err (fault_at S2 name_at)
-data_of (Some t) name_at null null_at start =
+abbrev pub data_for_named : Option TableNo → Token → List ℕ → Token → ℕ → Result Reading Fault
+data_for_named None name_at null null_at start = Err (fault_at S2 name_at)
+data_for_named (Some t) name_at null null_at start =
     cond (bytes_eq null null_text) (Ok (record { definition = data_for t start; at = [] })) (Err (fault_at S17 null_at))
 
 -- after the line on which the statement ends
 abbrev pub data_after : Option TableNo → Token → List ℕ → Token → Result ℕ Fault → Result Reading Fault
 data_after t name_at null null_at (Err f) = Err f
-data_after t name_at null null_at (Ok start) = data_of t name_at null null_at start
+data_after t name_at null null_at (Ok start) = data_for_named t name_at null null_at start
 
 -- COPY into the table of a name, with this text for NULL, both as they were read
 abbrev pub data_spelled : Contents → Spelled → Spelled → ℕ → Result Reading Fault
-data_spelled cat name null start = data_of (table_named cat name.bytes) name.token null.bytes null.token start
+data_spelled cat name null start = data_for_named (table_named cat name.bytes) name.token null.bytes null.token start
 
 -- COPY into the table of a name, with this text for NULL, both as they are written
 abbrev pub data_named : Contents → Ident → Said → ℕ → Result Reading Fault
-data_named cat n null start = data_of (table_named cat (bytes_of n)) (token_of n) null.value null.token start
+data_named cat n null start = data_for_named (table_named cat (bytes_of n)) (token_of n) null.value null.token start

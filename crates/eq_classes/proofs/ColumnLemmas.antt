@@ -15,7 +15,7 @@ use Rattle.pg_expr.specs.Columns.{passes_column, each_column}
 use Rattle.eq_classes.specs.declared.order.OrderItem.{OrderItem}
 use Rattle.eq_classes.specs.Equality.{Equality, equality_family, equal_in, equality_in, is_column, as_clause}
 use Rattle.eq_classes.specs.Classes.{Premises, Linked, conjunct, constant, same, turned, chain, Class, is_family, has_member, Mention, is_in, left_of, in_family, ordered_by, mentions, first_mention, IsClass, AreClasses}
-use Rattle.eq_classes.specs.Clauses.{Source, Clause, clause, by_conjunct, by_class, by_pair, one, first_in, is_first, equals, equals_constant, conjunct_clauses, constant_clauses, inner_clause, inner_clauses, pair_clause, pair_clauses, has_constant, class_clauses, clauses_from, clause_list}
+use Rattle.eq_classes.specs.Clauses.{ClauseSource, Clause, clause, by_conjunct, by_class, by_pair, one, first_in, is_first, equals, equals_constant, conjunct_clauses, constant_clauses, inner_clause, inner_clauses, pair_clause, pair_clauses, has_constant, class_clauses, clauses_from, clause_list}
 use Rattle.eq_classes.proofs.ListLemmas.{IsIn, Before, in_parts, in_filter, in_filter_map, in_from_contains, all_at, earlier_in, later_in}
 use Rattle.eq_classes.proofs.EqualLemmas.{column_is, family_is}
 use Rattle.eq_classes.proofs.HoldLemmas.{in_map, in_flat_map, in_each_pair}
@@ -29,7 +29,7 @@ module _ (type_of : ColRef → SqlType) (conjuncts : List Cond) (classes : List 
     (by_itself : (k : Cond) → IsIn k conjuncts → P (as_clause type_of k))
     (by_members : (c : Class) → IsIn c classes → (x y : ColRef) → IsIn x c.members → IsIn y c.members → P (equals c x y))
     (by_constant : (c : Class) → IsIn c classes → (x : ColRef) (v : Value) → IsIn x c.members → IsIn v c.constants → P (equals_constant c x v)) where
-  as_made : (k : Clause) (e : Cond) (s : Source) → k ≡ clause e s → P e → P k.cond
+  as_made : (k : Clause) (e : Cond) (s : ClauseSource) → k ≡ clause e s → P e → P k.cond
   as_made k e s is h = subst (λ (a : Clause). P a.cond) (sym is) h
 
   each_inner : (n : ℕ) (c : Class) → IsIn c classes → (x : ColRef) → IsIn x c.members → (o : Option ColRef) → first_in c (one x.rel.0) ≡ o → (k : Clause) → IsIn k (inner_clause n c x o) → P k.cond

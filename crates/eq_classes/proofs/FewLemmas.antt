@@ -14,7 +14,7 @@ use Rattle.pg_expr.specs.Pushed.{is_lower}
 use Rattle.eq_classes.specs.Equality.{Equality, equality_in, is_column, is_other, are_equal}
 use Rattle.eq_classes.specs.Classes.{Premises, Linked, Class, is_family, has_member, Mention, mentions, first_mention, literals, distinct, IsClass, AreClasses}
 use Rattle.eq_classes.specs.Clauses.{Clause, clause, by_class, one, first_in, is_same, is_first, equals, equals_constant, each_pair, conjunct_clauses, constant_clauses, inner_clause, inner_clauses, pair_clause, pair_clauses, has_constant, class_clauses, clauses_from, clause_list}
-use Rattle.eq_classes.specs.Grouping.{Part, has_side, columns_in, literals_in, started, united, touches, gathered, added, grouped}
+use Rattle.eq_classes.specs.Grouping.{Part, has_side, operand_columns, literals_in, started, united, touches, gathered, added, grouped}
 use Rattle.eq_classes.proofs.ListLemmas.{IsIn, Before, earlier_in, later_in, in_filter, filter_in, before_filter, in_from_contains, all_at, pairs_at, any_from, any_at}
 use Rattle.eq_classes.proofs.EqualLemmas.{column_is, equal_sym, equal_trans, equal_self, family_is, family_self}
 use Rattle.eq_classes.proofs.ClassHoldLemmas.{same_is, column_self}
@@ -64,7 +64,7 @@ weights-parts test (p ∷ ps) =
     (λ (t : test p ≡ false). rw t (omega (arith, e)))
     (cases_Bool (test p))
 
-started_columns : (l : ColRef) (r : Operand) → length (l ∷ columns_in r) + length (literals_in r) ≡ 2
+started_columns : (l : ColRef) (r : Operand) → length (l ∷ operand_columns r) + length (literals_in r) ≡ 2
 started_columns l (Col c) = refl
 started_columns l (Lit v) = refl
 
@@ -73,7 +73,7 @@ started_weight f l r = started_columns l r
 
 started_tree : (f : Family) (l : ColRef) (r : Operand) → IsTree (started f l r)
 started_tree f l r =
-    let a = count_most is_column (l ∷ columns_in r) in
+    let a = count_most is_column (l ∷ operand_columns r) in
     let b = count_most (are_equal f) (literals_in r) in
     let e = started_columns l r in
     omega (arith, a, b, e)
@@ -146,7 +146,7 @@ module _ (f : Family) (l : ColRef) (r : Operand) (right : has_side (started f l 
   gathered_trees : (ps : List Part) → AreTrees ps → AreTrees (gathered f l r ps [] (started f l r))
   gathered_trees ps trees = subst AreTrees (sym (gathered_is f l r ps [] (started f l r))) (λ p i. ⊎_elim
       (λ (h : IsIn p (untouched f l r ps)). trees p (in_filter (λ q. not (touches f l r q)) ps p h).0)
-      (λ (e : p ≡ whole ps). subst IsTree (sym e) (unite_tree l r (started f l r) (touched f l r ps) (or_left (is_column l l) (list_any (is_column l) (columns_in r)) (column_self l)) right (started_tree f l r)
+      (λ (e : p ≡ whole ps). subst IsTree (sym e) (unite_tree l r (started f l r) (touched f l r ps) (or_left (is_column l l) (list_any (is_column l) (operand_columns r)) (column_self l)) right (started_tree f l r)
       (λ q j. trees q (in_filter (touches f l r) ps q j).0)
       (λ q j.
       let t = in_filter (touches f l r) ps q j in

@@ -12,7 +12,7 @@ use Rattle.pg_expr.specs.declared.operand.Operand.TheVariants.{Col, Lit}
 use Rattle.pg_expr.specs.Cond.{Cond}
 use Rattle.eq_classes.specs.Equality.{Equality, equal_in, equality_in, is_column, is_other, are_equal}
 use Rattle.eq_classes.specs.Classes.{Premises, Linked, conjunct, constant, same, turned, chain, is_family}
-use Rattle.eq_classes.specs.Grouping.{Part, has_side, columns_in, literals_in, started, united, touches, gathered, added, grouped}
+use Rattle.eq_classes.specs.Grouping.{Part, has_side, operand_columns, literals_in, started, united, touches, gathered, added, grouped}
 use Rattle.eq_classes.proofs.ListLemmas.{IsIn, Before, in_left, in_right, in_parts, in_filter, filter_in, before_filter, either_before, contains_from_in, in_from_contains, any_from, any_at}
 use Rattle.eq_classes.proofs.EqualLemmas.{column_is, family_is, family_self, equal_sym, equal_trans}
 use Rattle.eq_classes.proofs.ClassHoldLemmas.{column_self}
@@ -118,7 +118,7 @@ module _ (g : Premises) (k : Cond) (e : Equality) (ik : IsIn k g.conjuncts) (is 
       let t = in_filter (touches f l r) ps p i in
       family_is f p.family (and_parts (is_family f p.family) (has_side p (Col l) || has_side p r) t.1).0
 
-  fresh_side : (o : Operand) → r ≡ o → (c : ColRef) → list_any (is_column c) (columns_in o) ≡ true → r ≡ Col c
+  fresh_side : (o : Operand) → r ≡ o → (c : ColRef) → list_any (is_column c) (operand_columns o) ≡ true → r ≡ Col c
   fresh_side (Col d) e' c h = ⊎_elim (λ (t : is_column c d ≡ true). e' ∙ ap Col (sym (column_is c d t))) (λ (t : false ≡ true). absurd (true≢false (sym t))) (or_cases (is_column c d) false h)
   fresh_side (Lit v) e' c h = absurd (true≢false (sym h))
 
@@ -130,8 +130,8 @@ module _ (g : Premises) (k : Cond) (e : Equality) (ik : IsIn k g.conjuncts) (is 
   fresh_linked : (x : Operand) → has_side fresh x ≡ true → Linked g f x (Col l)
   fresh_linked (Col c) h = ⊎_elim
       (λ (t : is_column c l ≡ true). subst (λ (d : ColRef). Linked g f (Col c) (Col d)) (column_is c l t) (same (Col c)))
-      (λ (t : list_any (is_column c) (columns_in r) ≡ true). turned (Col l) (Col c) (subst (λ (o : Operand). Linked g f (Col l) o) (fresh_side r refl c t) edge))
-      (or_cases (is_column c l) (list_any (is_column c) (columns_in r)) h)
+      (λ (t : list_any (is_column c) (operand_columns r) ≡ true). turned (Col l) (Col c) (subst (λ (o : Operand). Linked g f (Col l) o) (fresh_side r refl c t) edge))
+      (or_cases (is_column c l) (list_any (is_column c) (operand_columns r)) h)
   fresh_linked (Lit v) h =
       let w = fresh_literal r refl v h in
       chain (Lit v) (Lit w.0) (Col l) (constant v w.0 w.2) (turned (Col l) (Lit w.0) (subst (λ (o : Operand). Linked g f (Col l) o) w.1 edge))
@@ -163,8 +163,8 @@ module _ (g : Premises) (k : Cond) (e : Equality) (ik : IsIn k g.conjuncts) (is 
   fresh_apart : (q : Part) → IsIn q (untouched f l r ps) → f ≡ q.family → (x : Operand) → has_side q x ≡ true → has_side fresh x ≡ true → ⊥
   fresh_apart q i family (Col c) h h' = ⊎_elim
       (λ (t : is_column c l ≡ true). (no_side q i family).0 (subst (λ (d : ColRef). has_side q (Col d) ≡ true) (column_is c l t) h))
-      (λ (t : list_any (is_column c) (columns_in r) ≡ true). (no_side q i family).1 (subst (λ (o : Operand). has_side q o ≡ true) (sym (fresh_side r refl c t)) h))
-      (or_cases (is_column c l) (list_any (is_column c) (columns_in r)) h')
+      (λ (t : list_any (is_column c) (operand_columns r) ≡ true). (no_side q i family).1 (subst (λ (o : Operand). has_side q o ≡ true) (sym (fresh_side r refl c t)) h))
+      (or_cases (is_column c l) (list_any (is_column c) (operand_columns r)) h')
   fresh_apart q i family (Lit v) h h' =
       let w = fresh_literal r refl v h' in
       let u = any_at (are_equal q.family v) q.literals h in
@@ -209,7 +209,7 @@ module _ (g : Premises) (k : Cond) (e : Equality) (ik : IsIn k g.conjuncts) (is 
   })
 
   right_self : (o : Operand) → r ≡ o → is_other l o ≡ true → has_side fresh o ≡ true
-  right_self (Col d) e' other = or_right (is_column d l) (list_any (is_column d) (columns_in r)) (subst (λ (o : Operand). list_any (is_column d) (columns_in o) ≡ true) (sym e') (or_left (is_column d d) false (column_self d)))
+  right_self (Col d) e' other = or_right (is_column d l) (list_any (is_column d) (operand_columns r)) (subst (λ (o : Operand). list_any (is_column d) (operand_columns o) ≡ true) (sym e') (or_left (is_column d d) false (column_self d)))
   right_self (Lit v) e' other = subst (λ (o : Operand). list_any (are_equal f v) (literals_in o) ≡ true) (sym e') (or_left (are_equal f v v) false (literal_self f l v other))
 
   pub step_new : IsJoined (gathered f l r ps [] fresh) e
@@ -217,7 +217,7 @@ module _ (g : Premises) (k : Cond) (e : Equality) (ik : IsIn k g.conjuncts) (is 
     part = whole;
     inside = in_right whole (untouched f l r ps) (whole ∷ []) (inl refl);
     family = whole_family;
-    left = has_unite fresh (touched f l r ps) (Col l) touched_family (or_left (is_column l l) (list_any (is_column l) (columns_in r)) (column_self l));
+    left = has_unite fresh (touched f l r ps) (Col l) touched_family (or_left (is_column l l) (list_any (is_column l) (operand_columns r)) (column_self l));
     right = has_unite fresh (touched f l r ps) r touched_family (right_self r refl (equality_is g.type_of k e is).other);
   })
 

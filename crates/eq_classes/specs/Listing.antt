@@ -14,7 +14,7 @@ use Rattle.eq_classes.specs.Classes.{Class}
 use Rattle.opfamily.specs.pg_base_rel_set_RelSet.{RelSet}
 use Rattle.opfamily.specs.pg_base_Sets.{has}
 use Rattle.pg_expr.specs.Columns.{names_rel}
-use Rattle.eq_classes.specs.Clauses.{Source, by_conjunct, by_class, by_pair, Clause, clause, inner_clause, first_in, one, ClassTable, pair_clause, equals_constant, conjunct_clauses, each_pair, inner_clauses, constant_clauses, class_clauses}
+use Rattle.eq_classes.specs.Clauses.{ClauseSource, by_conjunct, by_class, by_pair, Clause, clause, inner_clause, first_in, one, ClassTable, pair_clause, equals_constant, conjunct_clauses, each_pair, inner_clauses, constant_clauses, class_clauses}
 use Rattle.std.specs.declared.alloc.Global.{Global}
 use Rattle.pg_expr.specs.declared.expr.Expr.{Expr}
 use Rattle.eq_classes.specs.declared.classes.ClassNo.{ClassNo}
@@ -36,7 +36,7 @@ abbrev pub sort_direction : Class → Bool × Bool
 sort_direction c = (c.descending, c.nulls_first)
 
 -- the source of an entry's clause, with the class that the entry has by number
-abbrev pub source_of : List Class → Origin → Source
+abbrev pub source_of : List Class → Origin → ClauseSource
 source_of cs (Conjunct n) = by_conjunct n
 source_of cs (OfClass n) = by_class n (class_at cs n)
 source_of cs (Pair n l h) = by_pair n (class_at cs n) l.0 h.0
@@ -118,12 +118,12 @@ abbrev pub selects : (Clause → Bool) → ClassTable → ℕ → Bool
 selects test t k = nat_lt k (length t.clauses) && test (clause_at t.clauses k)
 
 -- the conjunct of a clause, or none where a class makes it
-abbrev pub conjunct_of : Source → Option ℕ
+abbrev pub conjunct_of : ClauseSource → Option ℕ
 conjunct_of (by_conjunct n) = Some n
 conjunct_of s = None
 
 -- the class of which a clause is a pair clause, or none
-abbrev pub pair_class_of : Source → Option ℕ
+abbrev pub pair_class_of : ClauseSource → Option ℕ
 pair_class_of (by_pair n c l h) = Some n
 pair_class_of s = None
 

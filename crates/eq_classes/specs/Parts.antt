@@ -7,7 +7,7 @@ use Rattle.pg_expr.specs.declared.operand.ColRef.{ColRef}
 use Rattle.pg_expr.specs.Cond.{Cond}
 use Rattle.pg_expr.specs.Columns.{some_column, each_column, names_rel}
 use Rattle.eq_classes.specs.Classes.{Class}
-use Rattle.eq_classes.specs.Clauses.{Set, one, Source, by_conjunct, by_class, by_pair, Clause, first_in, has_constant}
+use Rattle.eq_classes.specs.Clauses.{Set, one, ClauseSource, by_conjunct, by_class, by_pair, Clause, first_in, has_constant}
 use Rattle.eq_classes.specs.declared.classes.ClassNo.{ClassNo}
 use Rattle.eq_classes.specs.Listing.{class_no}
 
@@ -59,7 +59,7 @@ is_base r k = is_inside (one r) k.cond
 
 -- Param(r, P): conjunct clauses inside r and P that name r and some relation of P; for each class with members in r and
 -- in P, the pair clause of r and the lowest relation of P with a member
-abbrev pub is_param_from : ℕ → Set → Cond → Source → Bool
+abbrev pub is_param_from : ℕ → Set → Cond → ClauseSource → Bool
 is_param_from r p e (by_conjunct n) = is_inside (union (one r) p) e && (names_rel r e && names_some p e)
 is_param_from r p e (by_class n c) = false
 is_param_from r p e (by_pair n c l h) = are_lowest c (one r) p l h
@@ -68,9 +68,13 @@ is_param_from r p e (by_pair n c l h) = are_lowest c (one r) p l h
 abbrev pub is_param : ℕ → Set → Clause → Bool
 is_param r p k = is_param_from r p k.cond k.source
 
+-- a clause is over a relation alone, or one that it tests with the relations of a parameterisation
+abbrev pub is_local : ℕ → Set → Clause → Bool
+is_local r p k = is_base r k || is_param r p k
+
 -- Join(A, B): conjunct clauses inside the union and inside neither; for each class with members in both, the pair
 -- clause of the lowest such relation of each
-abbrev pub is_join_from : Set → Set → Cond → Source → Bool
+abbrev pub is_join_from : Set → Set → Cond → ClauseSource → Bool
 is_join_from a b e (by_conjunct n) = is_inside (union a b) e && (not (is_inside a e) && not (is_inside b e))
 is_join_from a b e (by_class n c) = false
 is_join_from a b e (by_pair n c l h) = are_lowest c a b l h
@@ -80,7 +84,7 @@ abbrev pub is_join : Set → Set → Clause → Bool
 is_join a b k = is_join_from a b k.cond k.source
 
 -- Join(A, (r, P)): Join(A, {r}) without the conjunct clauses of Param(r, P) and without the classes with members in r and P
-abbrev pub is_left_out : ℕ → Set → Cond → Source → Bool
+abbrev pub is_left_out : ℕ → Set → Cond → ClauseSource → Bool
 is_left_out r p e (by_conjunct n) = is_param_from r p e (by_conjunct n)
 is_left_out r p e (by_class n c) = has_in c (one r) && has_in c p
 is_left_out r p e (by_pair n c l h) = has_in c (one r) && has_in c p
@@ -95,7 +99,7 @@ is_join_param a r p k = is_join a (one r) k && not (is_left_out r p k.cond k.sou
 
 -- All(S): conjunct clauses inside S, Base of each relation in S, and the pair clauses of a class's lowest relation in S
 -- with each other one in S. A clause of a class over one relation is inside S where that relation is
-abbrev pub is_all_from : Set → Cond → Source → Bool
+abbrev pub is_all_from : Set → Cond → ClauseSource → Bool
 is_all_from set e (by_conjunct n) = is_inside set e
 is_all_from set e (by_class n c) = is_inside set e
 is_all_from set e (by_pair n c l h) = is_lowest c set l && set h

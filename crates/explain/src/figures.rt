@@ -50,7 +50,7 @@ fn behind(offset: u64, asked: u64) -> u64
 
 /// The line of LIMIT and OFFSET, of a window.
 fn line_of(alloc: Global, w: Window, price: u64, asked: u64) -> Result<Bytes, Memory>
-    ensures { IfOk result (λ text. text ≡ texts.limit_text w price asked) }
+    ensures { IfOk result (λ text. text ≡ texts.rows_limit_text w price asked) }
 {
     let words = window_words(alloc, w)?;
     let pair = Pair {
@@ -77,7 +77,7 @@ pub fn limit_text(
     requires window { IsSome q.now.window }
     requires asked { asked ≤ rows }
     ensures text { (w : windows.Window) → q.now.window ≡ Some w →
-        IfOk result (λ text. text ≡ texts.limit_text w price asked) }
+        IfOk result (λ text. text ≡ texts.rows_limit_text w price asked) }
 {
     match q.window {
         None => unreachable!(),

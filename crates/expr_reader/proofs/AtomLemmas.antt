@@ -12,7 +12,7 @@ use Rattle.sql_grammar.specs.declared.class.Word.TheVariants.{And, Is, Not, Null
 use Rattle.sql_grammar.specs.declared.class.Symbol.TheVariants.{Open, Close}
 use Rattle.sql_grammar.specs.declared.class.Free.TheVariants.{Between, In}
 use Rattle.sql_grammar.specs.Terminals.{Terminal, Said, free, t_name, t_key, t_mark, t_operator}
-use Rattle.sql_grammar.specs.Syntax.{Expr as ExprTree, Negated, no_not, not_before, in_list, between, Neg, negated, plain, Col, bare, qualified, yes, no, unknown, Lit, number, negative, quoted, constant, Operand, column, literal, Atom, parens, compare, is_null, is_not_null, column_alone, constant_alone}
+use Rattle.sql_grammar.specs.Syntax.{Expr as ExprTree, Negated, no_not, not_before, in_list, between, Neg, negated, plain, Col, bare, qualified, yes, no, unknown, Lit, number, negative, quoted, constant, OperandTree, column, literal, Atom, parens, compare, is_null, is_not_null, column_alone, constant_alone}
 use Rattle.sql_grammar.specs.Unique.{ends_atom, is_parens, front, tail}
 use Rattle.sql_grammar.specs.Words.{words_of_expr, words_of_neg, words_of_atom, words_of_operand, words_of_col, words_of_negated, words_of_lit, words_of_bounds}
 use Rattle.sql_grammar.proofs.ExprTrees.{tested}
@@ -21,16 +21,16 @@ use Rattle.expr_reader.specs.Reading.{BeginsNot, BeginsOperator, BeginsNoOperato
 use Rattle.expr_reader.specs.declared.written.Literal.{Literal}
 use Rattle.expr_reader.specs.declared.written.Literal.TheVariants.{Constant as ConstantOf}
 use Rattle.expr_reader.specs.declared.written.Side.TheVariants.{Column, Literal as LiteralSide}
-use Rattle.expr_reader.specs.Conditions.{next, then_parts, comparison, standing_for, negated_by, literals_after, equal_to, or_of, and_of, Side, of_column, of_literal, side_of, column_of, place_of_col, compare_sides, flag_column, truth_of_constant, meaning_of_atom}
+use Rattle.expr_reader.specs.Conditions.{next, then_parts, comparison, standing_for, negated_by, literals_after, equal_to, or_of, and_of, BoundSide, of_column, of_literal, side_of, column_of, place_of_col, compare_sides, flag_column, truth_of_constant, meaning_of_atom}
 use Rattle.expr_reader.specs.Reads.{seen_as}
 use Rattle.expr_reader.specs.Scope.{Scope}
 use Rattle.expr_reader.specs.Written.{side_read, literal_of, IsNullWords}
 
 -- a comparison, where an operator is next
 pub record Comparison (a : Atom) (rest left : List Terminal) (o : Operator) : Type 0 where
-  pub lower : Operand
+  pub lower : OperandTree
   pub said : Said
-  pub upper : Operand
+  pub upper : OperandTree
   pub atom : a ≡ compare lower said upper
   pub operator : o ≡ operator_said said
   pub words : left ≡ words_of_operand upper ++ rest
@@ -67,7 +67,7 @@ no-is : (rest : List Terminal) → ends_atom rest ≡ true → BeginsNot (t_key 
 no-is rest ends left (t, is) = tested ends_atom rest (t_key Is t ∷ left) ends refl is
 
 -- no operand begins with a parenthesis, and no atom with NOT
-no-open : (o : Operand) (x left : List Terminal) (t : Token) → words_of_operand o ++ x ≡ t_mark Open t ∷ left → ⊥
+no-open : (o : OperandTree) (x left : List Terminal) (t : Token) → words_of_operand o ++ x ≡ t_mark Open t ∷ left → ⊥
 no-open (column (bare n)) x left t is = absurd (cc (is))
 no-open (column (qualified q d n)) x left t is = absurd (cc (is))
 no-open (literal (number n)) x left t is = absurd (cc (is))
@@ -75,7 +75,7 @@ no-open (literal (negative m n)) x left t is = absurd (cc (is))
 no-open (literal (quoted q)) x left t is = absurd (cc (is))
 no-open (literal (constant c k)) x left t is = absurd (cc (is))
 
-no-not-operand : (o : Operand) (x left : List Terminal) (t : Token) → words_of_operand o ++ x ≡ t_key Not t ∷ left → ⊥
+no-not-operand : (o : OperandTree) (x left : List Terminal) (t : Token) → words_of_operand o ++ x ≡ t_key Not t ∷ left → ⊥
 no-not-operand (column (bare n)) x left t is = absurd (cc (is))
 no-not-operand (column (qualified q d n)) x left t is = absurd (cc (is))
 no-not-operand (literal (number n)) x left t is = absurd (cc (is))
@@ -153,7 +153,7 @@ pub record NoList (ts : List Terminal) : Type 0 where
   pub between : BeginsNot (λ t. t_name (free Between t)) ts
 
 -- a literal as a side
-abbrev sided : Lit → Result Side Fault
+abbrev sided : Lit → Result BoundSide Fault
 sided l = Ok (of_literal l)
 
 -- NULL is next, where NOT is taken or not there
@@ -170,22 +170,22 @@ module _ (scope : Scope) (type_of : ColRef → SqlType) where
     pub typed : type_of c ≡ t
     pub place : place_of_col col ≡ token
 
-  column-by : (m : Result ColRef Fault) (s : Side) (c : ColRef) (t : SqlType) (p token : Token) → next m (λ r. Ok (of_column r (type_of r) p)) ≡ Ok s → Column c t token ≡ side_read s →
+  column-by : (m : Result ColRef Fault) (s : BoundSide) (c : ColRef) (t : SqlType) (p token : Token) → next m (λ r. Ok (of_column r (type_of r) p)) ≡ Ok s → Column c t token ≡ side_read s →
       (m ≡ Ok c) × (type_of c ≡ t) × (p ≡ token)
   column-by (Ok r) (of_column d u q) c t p token is read = let same : of_column r (type_of r) p ≡ of_column d u q = cc (is) in (cc (same, read), cc (same, read), cc (same, read))
   column-by (Ok r) (of_literal l) c t p token is read = absurd (cc (read))
   column-by (Err f) s c t p token is read = absurd (cc (is))
 
-  no-literal : (s : Side) (l : Lit) (c : ColRef) (t : SqlType) (token : Token) → sided l ≡ Ok s → Column c t token ≡ side_read s → ⊥
+  no-literal : (s : BoundSide) (l : Lit) (c : ColRef) (t : SqlType) (token : Token) → sided l ≡ Ok s → Column c t token ≡ side_read s → ⊥
   no-literal (of_column d u q) l c t token is read = absurd (cc (is))
   no-literal (of_literal m) l c t token is read = absurd (cc (read))
 
   -- a side of which nothing is left to find
-  column-side : (col : Col) (s : Side) (c : ColRef) (t : SqlType) (token : Token) → side_of scope type_of (column col) ≡ Ok s → Column c t token ≡ side_read s → IsColumn col c t token
+  column-side : (col : Col) (s : BoundSide) (c : ColRef) (t : SqlType) (token : Token) → side_of scope type_of (column col) ≡ Ok s → Column c t token ≡ side_read s → IsColumn col c t token
   column-side col s c t token is read = let (found, typed, place) = column-by (column_of scope col) s c t (place_of_col col) token is read in record { found = found; typed = typed; place = place }
 
   -- what a column's test is, by the words after it
-  pub column-atom : (a : Atom) (s : Side) (rest old new : List Terminal) (c : ColRef) (t : SqlType) (token : Token) (r : Result Expr Fault) → is_parens a ≡ false → ends_atom rest ≡ true →
+  pub column-atom : (a : Atom) (s : BoundSide) (rest old new : List Terminal) (c : ColRef) (t : SqlType) (token : Token) (r : Result Expr Fault) → is_parens a ≡ false → ends_atom rest ≡ true →
       side_of scope type_of (front a) ≡ Ok s → Column c t token ≡ side_read s → old ≡ tail a rest → BeginsNoOperator old → NoList old →
       ((is null : Token) (left : List Terminal) → old ≡ t_key Is is ∷ t_key Null null ∷ left → (seen_as cond r ≡ Ok (null_test c)) × (new ≡ left)) →
       ((is not null : Token) (left : List Terminal) → old ≡ t_key Is is ∷ t_key Not not ∷ t_key Null null ∷ left → (seen_as cond r ≡ Ok (not_null_test c)) × (new ≡ left)) →
@@ -211,12 +211,12 @@ module _ (scope : Scope) (type_of : ColRef → SqlType) where
       (told.0 ∙ sym (ap (λ m. next m (λ x. flag_column (type_of x) x (place_of_col col))) found.found ∙ (ap (λ u. flag_column u c (place_of_col col)) found.typed ∙ ap (λ p. flag_column t c p) found.place)), told.1 ∙ is)
   column-atom (constant_alone k d) s rest old new c t token r flat ends side read is none lists null not_null alone = absurd (no-literal s (constant k d) c t token side read)
 
-  pub no-column : (m : Result ColRef Fault) (s : Side) (p : Token) (l : Literal) → next m (λ r. Ok (of_column r (type_of r) p)) ≡ Ok s → LiteralSide l ≡ side_read s → ⊥
+  pub no-column : (m : Result ColRef Fault) (s : BoundSide) (p : Token) (l : Literal) → next m (λ r. Ok (of_column r (type_of r) p)) ≡ Ok s → LiteralSide l ≡ side_read s → ⊥
   no-column (Ok r) (of_column d u q) p l is read = absurd (cc (read))
   no-column (Ok r) (of_literal m) p l is read = absurd (cc (is))
   no-column (Err f) s p l is read = absurd (cc (is))
 
-  lit-by : (l : Lit) (x : Literal) (s : Side) → sided l ≡ Ok s → LiteralSide x ≡ side_read s → x ≡ literal_of l
+  lit-by : (l : Lit) (x : Literal) (s : BoundSide) → sided l ≡ Ok s → LiteralSide x ≡ side_read s → x ≡ literal_of l
   lit-by l x (of_column d u q) is read = absurd (cc (is))
   lit-by l x (of_literal m) is read = let same : l ≡ m = cc (is) in let lit : x ≡ literal_of m = cc (read) in lit ∙ sym (ap literal_of same)
 
@@ -228,7 +228,7 @@ module _ (scope : Scope) (type_of : ColRef → SqlType) where
     pub meant : Ok (const truth) ≡ meaning_of_atom scope type_of a
     pub words : old ≡ rest
 
-  pub constant-atom : (a : Atom) (s : Side) (rest old : List Terminal) (x : Literal) → is_parens a ≡ false →
+  pub constant-atom : (a : Atom) (s : BoundSide) (rest old : List Terminal) (x : Literal) → is_parens a ≡ false →
       side_of scope type_of (front a) ≡ Ok s → LiteralSide x ≡ side_read s → old ≡ tail a rest → BeginsNoOperator old → NoList old → IsConstant a x rest old
   constant-atom (parens b e d) s rest old x flat side read is none lists = absurd (cc (flat))
   constant-atom (compare l op u) s rest old x flat side read is none lists = absurd (none op (words_of_operand u ++ rest) is)

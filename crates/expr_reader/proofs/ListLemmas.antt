@@ -10,7 +10,7 @@ use Rattle.sql_grammar.specs.declared.class.Free.TheVariants.{Between, In}
 use Rattle.sql_grammar.specs.declared.class.Word.TheVariants.{And, Is, Not}
 use Rattle.sql_grammar.specs.declared.class.Symbol.TheVariants.{Close, Comma, Open}
 use Rattle.sql_grammar.specs.Terminals.{Terminal, free, t_key, t_mark, t_name}
-use Rattle.sql_grammar.specs.Syntax.{Mark, Key, Lit, Operand, column, literal, Col, Negated, no_not, not_before, Atom, parens, compare, is_null, is_not_null, in_list, between, column_alone, constant_alone}
+use Rattle.sql_grammar.specs.Syntax.{Mark, Key, Lit, OperandTree, column, literal, Col, Negated, no_not, not_before, Atom, parens, compare, is_null, is_not_null, in_list, between, column_alone, constant_alone}
 use Rattle.sql_grammar.specs.Unique.{ends_operand, ends_atom, is_parens, front, tail}
 use Rattle.sql_grammar.specs.Words.{words_of_bounds, words_of_lit, words_of_operand}
 use Rattle.sql_grammar.proofs.ExprTrees.{tested, atom-dotless}
@@ -18,7 +18,7 @@ use Rattle.expr_reader.specs.declared.written.Literal.{Literal}
 use Rattle.expr_reader.specs.declared.written.Side.{Side as SideRead}
 use Rattle.expr_reader.specs.declared.written.Side.TheVariants.{Column, Literal as LiteralSide}
 use Rattle.expr_reader.specs.Reading.{Begins, BeginsNot, BeginsNoOperator, free_name}
-use Rattle.expr_reader.specs.Conditions.{next, then_parts, standing_for, negated_by, literals_after, equal_to, bounded_by, comparison, or_of, and_of, Side, of_column, of_literal, side_of, compare_sides, meaning_of_atom}
+use Rattle.expr_reader.specs.Conditions.{next, then_parts, standing_for, negated_by, literals_after, equal_to, bounded_by, comparison, or_of, and_of, BoundSide, of_column, of_literal, side_of, compare_sides, meaning_of_atom}
 use Rattle.expr_reader.specs.Expressions.{against, each_equal}
 use Rattle.expr_reader.specs.Scope.{Scope}
 use Rattle.expr_reader.specs.Written.{literal_of, side_read}
@@ -39,16 +39,16 @@ pub both-read : (p q : Result Cond Fault) (x y : Cond) (xs : Conds) → p ≡ Ok
 both-read p q x y xs first second is = ap (λ (zs : Conds). Ok (and_of zs)) is ∙ sym (ap (λ r. both r q) first ∙ ap (λ r. both (Ok x) r) second)
 
 -- one of the comparisons of IN
-abbrev pub equal_one : Side → Token → Lit → Result Cond Fault
+abbrev pub equal_one : BoundSide → Token → Lit → Result Cond Fault
 equal_one s word l = compare_sides (standing_for (codes "=") word) s (of_literal l)
 
 -- the comparisons of IN, of which some are read and others left
-pub record EqualsLeft (s : Side) (word : Token) (all : Result Conds Fault) (rest : List Terminal) (ready : Conds) (now : List Terminal) : Type 0 where
+pub record EqualsLeft (s : BoundSide) (word : Token) (all : Result Conds Fault) (rest : List Terminal) (ready : Conds) (now : List Terminal) : Type 0 where
   pub left : List (Mark × Lit)
   pub words : now ≡ words_of_bounds left ++ rest
   pub meant : all ≡ after ready (each_equal s word (literals_after left))
 
-pub first-equal : (s : Side) (word : Token) (l : Lit) (ls : List (Mark × Lit)) (rest now : List Terminal) (ready : Conds) (x : Cond) → equal_one s word l ≡ Ok x → now ≡ words_of_bounds ls ++ rest → ready ≡ cond_and x no_conds →
+pub first-equal : (s : BoundSide) (word : Token) (l : Lit) (ls : List (Mark × Lit)) (rest now : List Terminal) (ready : Conds) (x : Cond) → equal_one s word l ≡ Ok x → now ≡ words_of_bounds ls ++ rest → ready ≡ cond_and x no_conds →
     EqualsLeft s word (each_equal s word (l ∷ literals_after ls)) rest ready now
 first-equal s word l ls rest now ready x part is one = record {
   left = ls;
@@ -56,7 +56,7 @@ first-equal s word l ls rest now ready x part is one = record {
   meant = first-ready x (equal_one s word l) (each_equal s word (literals_after ls)) part ∙ ap (λ (zs : Conds). after zs (each_equal s word (literals_after ls))) (sym one);
 }
 
-pub first-equal-fault : (s : Side) (word : Token) (l : Lit) (ls : List (Mark × Lit)) (f : Fault) → equal_one s word l ≡ Err f → each_equal s word (l ∷ literals_after ls) ≡ Err f
+pub first-equal-fault : (s : BoundSide) (word : Token) (l : Lit) (ls : List (Mark × Lit)) (f : Fault) → equal_one s word l ≡ Err f → each_equal s word (l ∷ literals_after ls) ≡ Err f
 first-equal-fault s word l ls f part = first-fault f (equal_one s word l) (each_equal s word (literals_after ls)) part
 
 -- their OR
@@ -70,13 +70,13 @@ pub any-read : (all : Result Conds Fault) (xs : Conds) → all ≡ Ok xs → Ok 
 any-read all xs is = sym (ap any is)
 
 -- the literal behind a comma
-pub record NextEqual (s : Side) (word : Token) (all : Result Conds Fault) (rest : List Terminal) (ready : Conds) (mid : List Terminal) : Type 0 where
+pub record NextEqual (s : BoundSide) (word : Token) (all : Result Conds Fault) (rest : List Terminal) (ready : Conds) (mid : List Terminal) : Type 0 where
   pub part : Lit
   pub more : List (Mark × Lit)
   pub words : mid ≡ words_of_lit part ++ (words_of_bounds more ++ rest)
   pub meant : all ≡ after ready (then_parts (equal_one s word part) (each_equal s word (literals_after more)))
 
-equal-by : (s : Side) (word : Token) (all : Result Conds Fault) (m : Mark) (rest : List Terminal) (ready : Conds) (left : List (Mark × Lit)) (now mid : List Terminal) (t : Token) → now ≡ t_mark Comma t ∷ mid → now ≡ words_of_bounds left ++ t_mark Close m ∷ rest →
+equal-by : (s : BoundSide) (word : Token) (all : Result Conds Fault) (m : Mark) (rest : List Terminal) (ready : Conds) (left : List (Mark × Lit)) (now mid : List Terminal) (t : Token) → now ≡ t_mark Comma t ∷ mid → now ≡ words_of_bounds left ++ t_mark Close m ∷ rest →
     all ≡ after ready (each_equal s word (literals_after left)) → NextEqual s word all (t_mark Close m ∷ rest) ready mid
 equal-by s word all m rest ready [] now mid t took is meant = absurd (cc (took, is))
 equal-by s word all m rest ready ((j, l) ∷ ls) now mid t took is meant =
@@ -84,11 +84,11 @@ equal-by s word all m rest ready ((j, l) ∷ ls) now mid t took is meant =
     let words : mid ≡ (words_of_lit l ++ words_of_bounds ls) ++ t_mark Close m ∷ rest = cc (same) in
     record { part = l; more = ls; words = words ∙ append_assoc (words_of_lit l) (words_of_bounds ls) (t_mark Close m ∷ rest); meant = meant }
 
-pub next-equal : (s : Side) (word : Token) (all : Result Conds Fault) (m : Mark) (rest : List Terminal) (ready : Conds) (now mid : List Terminal) (t : Token) → now ≡ t_mark Comma t ∷ mid → EqualsLeft s word all (t_mark Close m ∷ rest) ready now →
+pub next-equal : (s : BoundSide) (word : Token) (all : Result Conds Fault) (m : Mark) (rest : List Terminal) (ready : Conds) (now mid : List Terminal) (t : Token) → now ≡ t_mark Comma t ∷ mid → EqualsLeft s word all (t_mark Close m ∷ rest) ready now →
     NextEqual s word all (t_mark Close m ∷ rest) ready mid
 next-equal s word all m rest ready now mid t took a = equal-by s word all m rest ready a.left now mid t took a.words a.meant
 
-pub next-equal-read : (s : Side) (word : Token) (all : Result Conds Fault) (rest : List Terminal) (ready ready' : Conds) (mid now : List Terminal) (x : Cond) (a : NextEqual s word all rest ready mid) → equal_one s word a.part ≡ Ok x → now ≡ words_of_bounds a.more ++ rest →
+pub next-equal-read : (s : BoundSide) (word : Token) (all : Result Conds Fault) (rest : List Terminal) (ready ready' : Conds) (mid now : List Terminal) (x : Cond) (a : NextEqual s word all rest ready mid) → equal_one s word a.part ≡ Ok x → now ≡ words_of_bounds a.more ++ rest →
     ready' ≡ joined ready (cond_and x no_conds) → EqualsLeft s word all rest ready' now
 next-equal-read s word all rest ready ready' mid now x a part is grown = record {
   left = a.more;
@@ -96,15 +96,15 @@ next-equal-read s word all rest ready ready' mid now x a part is grown = record 
   meant = a.meant ∙ (more-ready ready x (equal_one s word a.part) (each_equal s word (literals_after a.more)) part ∙ ap (λ (zs : Conds). after zs (each_equal s word (literals_after a.more))) (sym grown));
 }
 
-pub next-equal-fault : (s : Side) (word : Token) (all : Result Conds Fault) (rest : List Terminal) (ready : Conds) (mid : List Terminal) (f : Fault) (a : NextEqual s word all rest ready mid) → equal_one s word a.part ≡ Err f → all ≡ Err f
+pub next-equal-fault : (s : BoundSide) (word : Token) (all : Result Conds Fault) (rest : List Terminal) (ready : Conds) (mid : List Terminal) (f : Fault) (a : NextEqual s word all rest ready mid) → equal_one s word a.part ≡ Err f → all ≡ Err f
 next-equal-fault s word all rest ready mid f a part = a.meant ∙ no-more ready f (equal_one s word a.part) (each_equal s word (literals_after a.more)) part
 
-equal-end : (s : Side) (word : Token) (all : Result Conds Fault) (rest : List Terminal) (ready : Conds) (left : List (Mark × Lit)) (now : List Terminal) → BeginsNot (t_mark Comma) now → now ≡ words_of_bounds left ++ rest →
+equal-end : (s : BoundSide) (word : Token) (all : Result Conds Fault) (rest : List Terminal) (ready : Conds) (left : List (Mark × Lit)) (now : List Terminal) → BeginsNot (t_mark Comma) now → now ≡ words_of_bounds left ++ rest →
     all ≡ after ready (each_equal s word (literals_after left)) → (all ≡ Ok ready) × (now ≡ rest)
 equal-end s word all rest ready [] now absent is meant = (meant ∙ ap (λ (zs : Conds). Ok zs) (joined-nil ready), is)
 equal-end s word all rest ready ((j, l) ∷ ls) now absent is meant = absurd (absent _ (j, is))
 
-pub last-equal : (s : Side) (word : Token) (all : Result Conds Fault) (rest : List Terminal) (ready : Conds) (now : List Terminal) → BeginsNot (t_mark Comma) now → EqualsLeft s word all rest ready now → (all ≡ Ok ready) × (now ≡ rest)
+pub last-equal : (s : BoundSide) (word : Token) (all : Result Conds Fault) (rest : List Terminal) (ready : Conds) (now : List Terminal) → BeginsNot (t_mark Comma) now → EqualsLeft s word all rest ready now → (all ≡ Ok ready) × (now ≡ rest)
 last-equal s word all rest ready now absent a = equal-end s word all rest ready a.left now absent a.words a.meant
 
 -- a condition, negated or not
@@ -150,24 +150,24 @@ ended-in rest old mid left w false ends t is ahead = tested ends_atom rest (t_na
 
 module _ (scope : Scope) (type_of : ColRef → SqlType) where
   -- a condition that BETWEEN makes, of which BETWEEN is taken
-  pub record IsRange (a : Atom) (s : Side) (b : Bool) (word : Token) (rest left : List Terminal) : Type 0 where
+  pub record IsRange (a : Atom) (s : BoundSide) (b : Bool) (word : Token) (rest left : List Terminal) : Type 0 where
     pub negated : Negated
-    pub low : Operand
+    pub low : OperandTree
     pub and_at : Key
-    pub high : Operand
+    pub high : OperandTree
     pub taken : is_written negated ≡ b
     pub ends : ends_operand rest ≡ true
     pub words : left ≡ words_of_operand low ++ t_key And and_at ∷ (words_of_operand high ++ rest)
     pub meant : meaning_of_atom scope type_of a ≡ perhaps_negated negated (both (against scope type_of s (codes ">=") word low) (against scope type_of s (codes "<=") word high))
 
-  range-meant : (l : Operand) (n : Negated) (w : Token) (low high : Operand) (s : Side) (word : Token) → side_of scope type_of l ≡ Ok s → w ≡ word →
+  range-meant : (l : OperandTree) (n : Negated) (w : Token) (low high : OperandTree) (s : BoundSide) (word : Token) → side_of scope type_of l ≡ Ok s → w ≡ word →
       next (bounded_by scope type_of l w low high) (λ xs. Ok (negated_by n (and_of xs))) ≡ perhaps_negated n (both (against scope type_of s (codes ">=") word low) (against scope type_of s (codes "<=") word high))
   range-meant l n w low high s word side same =
       negated-whole (bounded_by scope type_of l w low high) n and_of ∙
       (ap (λ x. perhaps_negated n (both (next x (λ a. next (side_of scope type_of low) (λ y. compare_sides (standing_for (codes ">=") w) a y))) (next x (λ a. next (side_of scope type_of high) (λ y. compare_sides (standing_for (codes "<=") w) a y))))) side ∙
       ap (λ v. perhaps_negated n (both (against scope type_of s (codes ">=") v low) (against scope type_of s (codes "<=") v high))) same)
 
-  pub range-next : (a : Atom) (s : Side) (rest old mid left : List Terminal) (b : Bool) (word : Token) → is_parens a ≡ false → ends_atom rest ≡ true → side_of scope type_of (front a) ≡ Ok s → old ≡ tail a rest → BeginsNoOperator old →
+  pub range-next : (a : Atom) (s : BoundSide) (rest old mid left : List Terminal) (b : Bool) (word : Token) → is_parens a ≡ false → ends_atom rest ≡ true → side_of scope type_of (front a) ≡ Ok s → old ≡ tail a rest → BeginsNoOperator old →
       TakesNot b old mid → mid ≡ t_name (free Between word) ∷ left → IsRange a s b word rest left
   range-next (parens o e d) s rest old mid left b word flat ends side is none t ahead = absurd (cc (flat))
   range-next (compare l op u) s rest old mid left b word flat ends side is none t ahead = absurd (none op (words_of_operand u ++ rest) is)
@@ -191,7 +191,7 @@ module _ (scope : Scope) (type_of : ColRef → SqlType) where
   range-next (constant_alone k d) s rest old mid left b word flat ends side is none t ahead = absurd (ended rest old mid left word b ends t is ahead)
 
   -- a condition that IN makes, of which IN is taken
-  pub record IsListed (a : Atom) (s : Side) (b : Bool) (word : Token) (rest left : List Terminal) : Type 0 where
+  pub record IsListed (a : Atom) (s : BoundSide) (b : Bool) (word : Token) (rest left : List Terminal) : Type 0 where
     pub negated : Negated
     pub col : Col
     pub open_at : Mark
@@ -203,18 +203,18 @@ module _ (scope : Scope) (type_of : ColRef → SqlType) where
     pub words : left ≡ t_mark Open open_at ∷ (words_of_lit one ++ (words_of_bounds more ++ t_mark Close close_at ∷ rest))
     pub meant : meaning_of_atom scope type_of a ≡ perhaps_negated negated (next (each_equal s word (one ∷ literals_after more)) (λ xs. Ok (or_of xs)))
 
-  equal-each : (c : Col) (w : Token) (s : Side) (ls : List Lit) → side_of scope type_of (column c) ≡ Ok s → equal_to scope type_of c w ls ≡ each_equal s w ls
+  equal-each : (c : Col) (w : Token) (s : BoundSide) (ls : List Lit) → side_of scope type_of (column c) ≡ Ok s → equal_to scope type_of c w ls ≡ each_equal s w ls
   equal-each c w s [] side = refl
   equal-each c w s (l ∷ ls) side = ap₂ then_parts (ap (λ m. next m (λ a. compare_sides (standing_for (codes "=") w) a (of_literal l))) side) (equal-each c w s ls side)
 
-  list-meant : (c : Col) (n : Negated) (w : Token) (ls : List Lit) (s : Side) (word : Token) → side_of scope type_of (column c) ≡ Ok s → w ≡ word →
+  list-meant : (c : Col) (n : Negated) (w : Token) (ls : List Lit) (s : BoundSide) (word : Token) → side_of scope type_of (column c) ≡ Ok s → w ≡ word →
       next (equal_to scope type_of c w ls) (λ xs. Ok (negated_by n (or_of xs))) ≡ perhaps_negated n (next (each_equal s word ls) (λ xs. Ok (or_of xs)))
   list-meant c n w ls s word side same =
       negated-whole (equal_to scope type_of c w ls) n or_of ∙
       (ap (λ m. perhaps_negated n (next m (λ xs. Ok (or_of xs)))) (equal-each c w s ls side) ∙
       ap (λ v. perhaps_negated n (next (each_equal s v ls) (λ xs. Ok (or_of xs)))) same)
 
-  pub list-next : (a : Atom) (s : Side) (rest old mid left : List Terminal) (b : Bool) (word : Token) → is_parens a ≡ false → ends_atom rest ≡ true → side_of scope type_of (front a) ≡ Ok s → old ≡ tail a rest → BeginsNoOperator old →
+  pub list-next : (a : Atom) (s : BoundSide) (rest old mid left : List Terminal) (b : Bool) (word : Token) → is_parens a ≡ false → ends_atom rest ≡ true → side_of scope type_of (front a) ≡ Ok s → old ≡ tail a rest → BeginsNoOperator old →
       TakesNot b old mid → mid ≡ t_name (free In word) ∷ left → IsListed a s b word rest left
   list-next (parens o e d) s rest old mid left b word flat ends side is none t ahead = absurd (cc (flat))
   list-next (compare l op u) s rest old mid left b word flat ends side is none t ahead = absurd (none op (words_of_operand u ++ rest) is)
@@ -238,19 +238,19 @@ module _ (scope : Scope) (type_of : ColRef → SqlType) where
   list-next (constant_alone k d) s rest old mid left b word flat ends side is none t ahead = absurd (ended-in rest old mid left word b ends t is ahead)
 
   -- the side of a list's column is the column that was read
-  pub listed-side : (s : Side) (c : ColRef) (t : SqlType) (first : Token) → Column c t first ≡ side_read s → s ≡ of_column c t first
+  pub listed-side : (s : BoundSide) (c : ColRef) (t : SqlType) (first : Token) → Column c t first ≡ side_read s → s ≡ of_column c t first
   listed-side (of_column d u q) c t first is = cc (is)
   listed-side (of_literal l) c t first is = absurd (cc (is))
 
-  literal-by : (c : Col) (s : Side) (x : Literal) → side_of scope type_of (column c) ≡ Ok s → LiteralSide x ≡ side_read s → ⊥
+  literal-by : (c : Col) (s : BoundSide) (x : Literal) → side_of scope type_of (column c) ≡ Ok s → LiteralSide x ≡ side_read s → ⊥
   literal-by c s x side read = no-column scope type_of _ s _ x side read
 
   -- the side of a list's column is no literal
-  pub listed-column : (a : Atom) (s : Side) (b : Bool) (word : Token) (rest left : List Terminal) (x : Literal) → IsListed a s b word rest left → LiteralSide x ≡ side_read s → ⊥
+  pub listed-column : (a : Atom) (s : BoundSide) (b : Bool) (word : Token) (rest left : List Terminal) (x : Literal) → IsListed a s b word rest left → LiteralSide x ≡ side_read s → ⊥
   listed-column a s b word rest left x at read = literal-by at.col s x at.side read
 
   -- a side that means a column was read as one
-  pub listed-read : (s : Side) (left : SideRead) (col : Col) → side_of scope type_of (column col) ≡ Ok s → left ≡ side_read s → ((c : ColRef) (t : SqlType) (first : Token) → ¬ (left ≡ Column c t first)) → ⊥
+  pub listed-read : (s : BoundSide) (left : SideRead) (col : Col) → side_of scope type_of (column col) ≡ Ok s → left ≡ side_read s → ((c : ColRef) (t : SqlType) (first : Token) → ¬ (left ≡ Column c t first)) → ⊥
   listed-read (of_column c t first) left col side read none = none c t first read
   listed-read (of_literal m) left col side read none = literal-by col (of_literal m) (literal_of m) side refl
 

@@ -7,7 +7,7 @@ use Rattle.sql_lex.specs.declared.tokens.Token.{Token}
 use Rattle.sql_grammar.specs.declared.class.Symbol.TheVariants.{Dot}
 use Rattle.sql_grammar.specs.Faults.{bytes_of}
 use Rattle.sql_grammar.specs.Terminals.{Terminal, Ident, t_mark, t_name, token_of}
-use Rattle.sql_grammar.specs.Syntax.{Col, bare, qualified, Operand, column}
+use Rattle.sql_grammar.specs.Syntax.{Col, bare, qualified, OperandTree, column}
 use Rattle.sql_grammar.specs.Unique.{token_in}
 use Rattle.sql_grammar.specs.Words.{words_of_col}
 use Rattle.expr_reader.specs.declared.cursor.Spelled.{Spelled}
@@ -16,7 +16,7 @@ use Rattle.expr_reader.specs.declared.found.Found.{Found}
 use Rattle.expr_reader.specs.declared.found.Found.TheVariants.{One, NoTable, NoColumn, Many}
 use Rattle.expr_reader.specs.declared.written.Side.{Side}
 use Rattle.expr_reader.specs.declared.written.Side.TheVariants.{Column}
-use Rattle.expr_reader.specs.Conditions.{next, Side as SideTree, of_column, side_of, the_column, column_of, place_of_col}
+use Rattle.expr_reader.specs.Conditions.{next, BoundSide as SideTree, of_column, side_of, the_column, column_of, place_of_col}
 use Rattle.expr_reader.specs.Scope.{Scope, look_up}
 use Rattle.expr_reader.specs.Written.{side_meant, side_read}
 
@@ -66,18 +66,18 @@ fault-by (Ok s) seen f is = absurd (cc (is))
 fault-by (Err g) seen f is = cc (is)
 
 -- the fault of a side
-pub side-fault : (scope : Scope) (type_of : ColRef → SqlType) (o : Operand) (f : Fault) → side_meant scope type_of o ≡ Err f → side_of scope type_of o ≡ Err f
+pub side-fault : (scope : Scope) (type_of : ColRef → SqlType) (o : OperandTree) (f : Fault) → side_meant scope type_of o ≡ Err f → side_of scope type_of o ≡ Err f
 side-fault scope type_of o f is = fault-by (side_of scope type_of o) side_read f is
 
 -- a side that is read
-pub record FoundSide (scope : Scope) (type_of : ColRef → SqlType) (o : Operand) (x : Side) : Type 0 where
+pub record FoundSide (scope : Scope) (type_of : ColRef → SqlType) (o : OperandTree) (x : Side) : Type 0 where
   pub side : SideTree
   pub found : side_of scope type_of o ≡ Ok side
   pub read : x ≡ side_read side
 
-side-by : (scope : Scope) (type_of : ColRef → SqlType) (o : Operand) (x : Side) (m : Result SideTree Fault) → side_of scope type_of o ≡ m → next m (λ s. Ok (side_read s)) ≡ Ok x → FoundSide scope type_of o x
+side-by : (scope : Scope) (type_of : ColRef → SqlType) (o : OperandTree) (x : Side) (m : Result SideTree Fault) → side_of scope type_of o ≡ m → next m (λ s. Ok (side_read s)) ≡ Ok x → FoundSide scope type_of o x
 side-by scope type_of o x (Ok s) of is = record { side = s; found = of; read = cc (is) }
 side-by scope type_of o x (Err f) of is = absurd (cc (is))
 
-pub side-found : (scope : Scope) (type_of : ColRef → SqlType) (o : Operand) (x : Side) → side_meant scope type_of o ≡ Ok x → FoundSide scope type_of o x
+pub side-found : (scope : Scope) (type_of : ColRef → SqlType) (o : OperandTree) (x : Side) → side_meant scope type_of o ≡ Ok x → FoundSide scope type_of o x
 side-found scope type_of o x is = side-by scope type_of o x (side_of scope type_of o) refl is

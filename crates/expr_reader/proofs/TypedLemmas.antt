@@ -27,13 +27,13 @@ use Rattle.pg_expr.specs.Typed.{some_value, IsTyped, AreTyped}
 use Rattle.sql_lex.specs.declared.tokens.Token.{Token}
 use Rattle.sql_grammar.specs.Terminals.{Said, token_of}
 use Rattle.sql_grammar.specs.Faults.{bytes_of, fault_at}
-use Rattle.sql_grammar.specs.Syntax.{Col, bare, qualified, yes, no, unknown, Lit, number, negative, quoted, constant, Operand as OperandTree, column, literal, Expr, either_of, Ors, no_or, or_conj, Conj, both_of, Ands, no_and, and_neg, Negated, no_not, not_before, Neg, negated, plain, Atom, parens, compare as compareTree, is_null, is_not_null, in_list, between, column_alone, constant_alone}
+use Rattle.sql_grammar.specs.Syntax.{Col, bare, qualified, yes, no, unknown, Lit, number, negative, quoted, constant, OperandTree, column, literal, Expr, either_of, Ors, no_or, or_conj, Conj, both_of, Ands, no_and, and_neg, Negated, no_not, not_before, Neg, negated, plain, Atom, parens, compare as compareTree, is_null, is_not_null, in_list, between, column_alone, constant_alone}
 use Rattle.expr_reader.specs.Operators.{operator_of}
 use Rattle.expr_reader.specs.declared.found.Found.{Found}
 use Rattle.expr_reader.specs.declared.found.Found.TheVariants.{One, NoTable, NoColumn, Many}
 use Rattle.expr_reader.specs.Scope.{Scope, look_up}
-use Rattle.expr_reader.specs.Literals.{value_at, written, type_of_lit, literal_value}
-use Rattle.expr_reader.specs.Conditions.{next, comparison, standing_for, negated_by, literals_after, equal_to, bounded_by, the_column, column_of, place_of_col, Side, of_column, of_literal, own_type, type_beside, operand_of, operated, compare_sides, flag_column, truth_of_constant, then_parts, or_of, and_of, side_of, meaning_of_expr, meaning_of_ors, meaning_of_conj, meaning_of_ands, meaning_of_neg, meaning_of_atom}
+use Rattle.expr_reader.specs.Literals.{value_or_fault, written, type_of_lit, literal_value}
+use Rattle.expr_reader.specs.Conditions.{next, comparison, standing_for, negated_by, literals_after, equal_to, bounded_by, the_column, column_of, place_of_col, BoundSide, of_column, of_literal, own_type, type_beside, operand_of, operated, compare_sides, flag_column, truth_of_constant, then_parts, or_of, and_of, side_of, meaning_of_expr, meaning_of_ors, meaning_of_conj, meaning_of_ands, meaning_of_neg, meaning_of_atom}
 use Rattle.expr_reader.proofs.ScopeLemmas.{found-all}
 use Rattle.opfamily.specs.Answers.{does_exist, some_family_has, family_has, takes, number_in}
 
@@ -187,19 +187,19 @@ some-kind types.Int8 = refl
 some-kind types.Text = refl
 some-kind types.Bool = refl
 
-ranged-kind : (b : Bool) (n : ℤ) (token : Token) (v : Value) → value_at token (cond b (Ok (values.Int n)) (Err Range)) ≡ Ok v → HasKind 0 v
+ranged-kind : (b : Bool) (n : ℤ) (token : Token) (v : Value) → value_or_fault token (cond b (Ok (values.Int n)) (Err Range)) ≡ Ok v → HasKind 0 v
 ranged-kind true n token v is = let same : values.Int n ≡ v = cc (is) in subst (HasKind 0) same refl
 ranged-kind false n token v is = absurd (cc (is))
 
-number-kind : (t : SqlType) (o : Option ℤ) (token : Token) (v : Value) → value_at token (ranged t o) ≡ Ok v → HasKind 0 v
+number-kind : (t : SqlType) (o : Option ℤ) (token : Token) (v : Value) → value_or_fault token (ranged t o) ≡ Ok v → HasKind 0 v
 number-kind t None token v is = absurd (cc (is))
 number-kind t (Some n) token v is = ranged-kind (in_range t n) n token v is
 
-flag-kind : (o : Option Bool) (token : Token) (v : Value) → value_at token (flagged o) ≡ Ok v → HasKind 2 v
+flag-kind : (o : Option Bool) (token : Token) (v : Value) → value_or_fault token (flagged o) ≡ Ok v → HasKind 2 v
 flag-kind None token v is = absurd (cc (is))
 flag-kind (Some b) token v is = let same : values.Bool b ≡ v = cc (is) in subst (HasKind 2) same refl
 
-text-kind : (t : SqlType) (q : Said) (v : Value) → value_at q.token (field_value t q.value) ≡ Ok v → HasKind (kind t) v
+text-kind : (t : SqlType) (q : Said) (v : Value) → value_or_fault q.token (field_value t q.value) ≡ Ok v → HasKind (kind t) v
 text-kind types.Int2 q v is = number-kind types.Int2 (number_of (word_of q.value)) q.token v is
 text-kind types.Int4 q v is = number-kind types.Int4 (number_of (word_of q.value)) q.token v is
 text-kind types.Int8 q v is = number-kind types.Int8 (number_of (word_of q.value)) q.token v is
@@ -261,11 +261,11 @@ module _ (scope : Scope) (type_of : ColRef → SqlType) (test : ColRef → Bool)
   column-passes (qualified q d n) r is = found-all (λ x. test x ≡ true) scope (Some (bytes_of q)) (bytes_of n) r all (the-column (look_up scope (Some (bytes_of q)) (bytes_of n)) (token_of q) (token_of n) r is)
 
   -- a side
-  abbrev FitsSide : Side → Type 0
+  abbrev FitsSide : BoundSide → Type 0
   FitsSide (of_column c t token) = (type_of c ≡ t) × (test c ≡ true)
   FitsSide (of_literal l) = Unit {0}
 
-  side-fits : (o : OperandTree) (s : Side) → side_of scope type_of o ≡ Ok s → FitsSide s
+  side-fits : (o : OperandTree) (s : BoundSide) → side_of scope type_of o ≡ Ok s → FitsSide s
   side-fits (column c) s is =
       let d = next-done (column_of scope c) (λ r. Ok (of_column r (type_of r) (place_of_col c))) s is in
       let same : of_column d.value (type_of d.value) (place_of_col c) ≡ s = cc (d.rest) in
@@ -275,7 +275,7 @@ module _ (scope : Scope) (type_of : ColRef → SqlType) (test : ColRef → Bool)
   abbrev FitsOperand : SqlType → Operand → Type 0
   FitsOperand t x = HasKind (kind t) (value_of (λ c. some_value (type_of c)) x) × (passes_column test x ≡ true)
 
-  operand-fits : (s : Side) (other : Option SqlType) (x : Operand) → FitsSide s → operand_of (type_beside (own_type s) other) s ≡ Ok x → FitsOperand (type_beside (own_type s) other) x
+  operand-fits : (s : BoundSide) (other : Option SqlType) (x : Operand) → FitsSide s → operand_of (type_beside (own_type s) other) s ≡ Ok x → FitsOperand (type_beside (own_type s) other) x
   operand-fits (of_column c t token) other x fits is =
       let same : col_operand c ≡ x = cc (is) in
       subst (FitsOperand t) same (subst (λ u. HasKind (kind u) (some_value (type_of c))) fits.0 (some-kind (type_of c)), fits.1)
@@ -284,7 +284,7 @@ module _ (scope : Scope) (type_of : ColRef → SqlType) (test : ColRef → Bool)
       let same : lit_operand d.value ≡ x = cc (d.rest) in
       subst (FitsOperand (type_beside (type_of_lit l) other)) same (literal-kind l other d.value d.first, refl)
 
-  sides-good : (op : Said) (a b : Side) (c : Cond) → FitsSide a → FitsSide b → compare_sides op a b ≡ Ok c → IsGood c
+  sides-good : (op : Said) (a b : BoundSide) (c : Cond) → FitsSide a → FitsSide b → compare_sides op a b ≡ Ok c → IsGood c
   sides-good op a b c fa fb is =
       let t = type_beside (own_type a) (own_type b) in
       let u = type_beside (own_type b) (own_type a) in

@@ -18,7 +18,7 @@ use Rattle.pg_expr.specs.Cond.{Cond, compare as compared, is_null as null_test, 
 use Rattle.sql_lex.specs.declared.tokens.Token.{Token}
 use Rattle.sql_grammar.specs.Terminals.{Said, token_of}
 use Rattle.sql_grammar.specs.Faults.{bytes_of, fault_at}
-use Rattle.sql_grammar.specs.Syntax.{Mark, Col, bare, qualified, Constant, yes, no, unknown, Lit, Operand as OperandTree, column, literal, Expr, either_of, Ors, no_or, or_conj, Conj, both_of, Ands, no_and, and_neg, Negated, no_not, not_before, Neg, negated, plain, Atom, parens, compare, is_null, is_not_null, in_list, between, column_alone, constant_alone}
+use Rattle.sql_grammar.specs.Syntax.{Mark, Col, bare, qualified, Constant, yes, no, unknown, Lit, OperandTree, column, literal, Expr, either_of, Ors, no_or, or_conj, Conj, both_of, Ands, no_and, and_neg, Negated, no_not, not_before, Neg, negated, plain, Atom, parens, compare, is_null, is_not_null, in_list, between, column_alone, constant_alone}
 use Rattle.expr_reader.specs.Operators.{operator_of}
 use Rattle.expr_reader.specs.declared.found.Found.{Found}
 use Rattle.expr_reader.specs.declared.found.Found.TheVariants.{One, NoTable, NoColumn, Many}
@@ -48,12 +48,12 @@ place_of_col (bare n) = token_of n
 place_of_col (qualified q _ n) = token_of q
 
 -- a side of a comparison whose column is found: the column, its type and its first token, or a literal
-pub data Side : Type 0 where
-  of_column : ColRef → SqlType → Token → Side
-  of_literal : Lit → Side
+pub data BoundSide : Type 0 where
+  of_column : ColRef → SqlType → Token → BoundSide
+  of_literal : Lit → BoundSide
 
 -- its own type, where it has one
-abbrev pub own_type : Side → Option SqlType
+abbrev pub own_type : BoundSide → Option SqlType
 own_type (of_column c t _) = Some t
 own_type (of_literal l) = type_of_lit l
 
@@ -64,7 +64,7 @@ type_beside None (Some t) = t
 type_beside None None = types.Text
 
 -- what a side of a comparison stands for, where a quoted text has a type
-abbrev pub operand_of : SqlType → Side → Result Operand Fault
+abbrev pub operand_of : SqlType → BoundSide → Result Operand Fault
 operand_of t (of_column c _ _) = Ok (col_operand c)
 operand_of t (of_literal l) = next (literal_value t l) (λ v. Ok (lit_operand v))
 
@@ -74,11 +74,11 @@ operated None token t u x y = Err (fault_at S9 token)
 operated (Some op) token t u x y = cond (does_exist op t u) (Ok (compared op x y)) (Err (fault_at S9 token))
 
 -- two sides of two types by an operator: the literals from the left, then the operator
-abbrev pub compare_as : Said → SqlType → SqlType → Side → Side → Result Cond Fault
+abbrev pub compare_as : Said → SqlType → SqlType → BoundSide → BoundSide → Result Cond Fault
 compare_as op t u a b = next (operand_of t a) (λ x. next (operand_of u b) (λ y. operated (operator_of op.value) op.token t u x y))
 
 -- two sides by an operator, each of its type beside the other
-abbrev pub compare_sides : Said → Side → Side → Result Cond Fault
+abbrev pub compare_sides : Said → BoundSide → BoundSide → Result Cond Fault
 compare_sides op a b = compare_as op (type_beside (own_type a) (own_type b)) (type_beside (own_type b) (own_type a)) a b
 
 -- a column that is a condition by itself is bool, or the fault is at its first token
@@ -124,7 +124,7 @@ literals_after ((_, l) ∷ ls) = l ∷ literals_after ls
 
 module _ (scope : Scope) (type_of : ColRef → SqlType) where
   -- a side, or the fault of its column
-  abbrev pub side_of : OperandTree → Result Side Fault
+  abbrev pub side_of : OperandTree → Result BoundSide Fault
   side_of (column c) = next (column_of scope c) (λ r. Ok (of_column r (type_of r) (place_of_col c)))
   side_of (literal l) = Ok (of_literal l)
 

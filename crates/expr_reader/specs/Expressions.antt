@@ -11,14 +11,14 @@ use Rattle.sql_lex.specs.declared.tokens.Token.{Token}
 use Rattle.sql_grammar.specs.declared.class.Symbol.TheVariants.{Close, Open}
 use Rattle.sql_grammar.specs.declared.class.Word.TheVariants.{And}
 use Rattle.sql_grammar.specs.Terminals.{Terminal, Said, t_key, t_mark}
-use Rattle.sql_grammar.specs.Syntax.{Key, Lit, Mark, Operand, column, Atom}
+use Rattle.sql_grammar.specs.Syntax.{Key, Lit, Mark, OperandTree, column, Atom}
 use Rattle.sql_grammar.specs.Unique.{ends_operand, ends_atom, ends_conj, ends_expr, is_parens, front, tail}
 use Rattle.sql_grammar.specs.Words.{words_of_bounds, words_of_lit, words_of_col, words_of_operand, words_of_atom, words_of_neg, words_of_conj, words_of_expr}
 use Rattle.expr_reader.specs.declared.cursor.Operator.{Operator}
 use Rattle.pg_base.specs.declared.faults.Fault.{Fault}
 use Rattle.expr_reader.specs.declared.value.Placed.{Placed}
 use Rattle.expr_reader.specs.declared.written.Side.{Side as SideRead}
-use Rattle.expr_reader.specs.Conditions.{next, Side, of_column, of_literal, or_of, and_of, then_parts, standing_for, literals_after, side_of, column_of, compare_sides, meaning_of_expr, meaning_of_conj, meaning_of_neg, meaning_of_atom}
+use Rattle.expr_reader.specs.Conditions.{next, BoundSide, of_column, of_literal, or_of, and_of, then_parts, standing_for, literals_after, side_of, column_of, compare_sides, meaning_of_expr, meaning_of_conj, meaning_of_neg, meaning_of_atom}
 use Rattle.expr_reader.specs.Literals.{typed_value}
 use Rattle.expr_reader.specs.Reading.{IfFirst, IfWords, operator_said}
 use Rattle.expr_reader.specs.Reads.{Reads}
@@ -35,7 +35,7 @@ ReadsColumn scope old read left =
     IfFirst words_of_col ends_operand old (λ c rest. Reads (λ x. x) (column_of scope c) rest read left)
 
 -- a column that was read against each of some literals, from the left, by the operator for which IN stands
-abbrev pub each_equal : Side → Token → List Lit → Result Conds Fault
+abbrev pub each_equal : BoundSide → Token → List Lit → Result Conds Fault
 each_equal s word [] = Ok no_conds
 each_equal s word (l ∷ ls) = then_parts (compare_sides (standing_for (codes "=") word) s (of_literal l)) (each_equal s word ls)
 
@@ -53,7 +53,7 @@ StandsAmong ts =
 -- the two sides behind BETWEEN stand first, whose left side was read
 abbrev pub StandsBetween : SideRead → List Terminal → Type 0
 StandsBetween first ts =
-    (s : Side) × (a : Operand) × (k : Key) × (b : Operand) × (rest : List Terminal) × (first ≡ side_read s) × (ends_operand rest ≡ true) ×
+    (s : BoundSide) × (a : OperandTree) × (k : Key) × (b : OperandTree) × (rest : List Terminal) × (first ≡ side_read s) × (ends_operand rest ≡ true) ×
     (ts ≡ words_of_operand a ++ t_key And k ∷ (words_of_operand b ++ rest))
 
 -- the list behind IN, whose column and word were read
@@ -77,32 +77,32 @@ module _ (scope : Scope) (type_of : ColRef → SqlType) where
   -- the right side of a comparison whose left side and operator were read
   abbrev pub ReadsComparison : SideRead → Operator → List Terminal → Result Expr Refusal → List Terminal → Type 0
   ReadsComparison first operator old read left =
-      (a : Side) (op : Said) (o : Operand) (rest : List Terminal) → first ≡ side_read a → operator ≡ operator_said op →
+      (a : BoundSide) (op : Said) (o : OperandTree) (rest : List Terminal) → first ≡ side_read a → operator ≡ operator_said op →
       ends_operand rest ≡ true →
       old ≡ words_of_operand o ++ rest → Reads cond (next (side_of scope type_of o) (λ b. compare_sides op a b)) rest read left
 
   -- a side that was read against an operand, by the operator for which a word stands
-  abbrev pub against : Side → List ℕ → Token → Operand → Result Cond Fault
+  abbrev pub against : BoundSide → List ℕ → Token → OperandTree → Result Cond Fault
   against s operator word o = next (side_of scope type_of o) (λ b. compare_sides (standing_for operator word) s b)
 
   -- the two sides behind BETWEEN, whose left side and word were read
   abbrev pub ReadsBetween : SideRead → Token → List Terminal → Result Expr Refusal → List Terminal → Type 0
   ReadsBetween first word old read left =
-      (s : Side) (a b : Operand) (k : Key) (rest : List Terminal) → first ≡ side_read s → ends_operand rest ≡ true →
+      (s : BoundSide) (a b : OperandTree) (k : Key) (rest : List Terminal) → first ≡ side_read s → ends_operand rest ≡ true →
       old ≡ words_of_operand a ++ t_key And k ∷ (words_of_operand b ++ rest) →
       Reads cond (next (then_parts (against s (codes ">=") word a) (then_parts (against s (codes "<=") word b) (Ok no_conds))) (λ xs. Ok (and_of xs))) rest read left
 
   -- what follows the operand with which an atom begins, which was read, stands first
   abbrev pub StandsTail : SideRead → List Terminal → Type 0
   StandsTail first ts =
-      (a : Atom) × (s : Side) × (rest : List Terminal) × (is_parens a ≡ false) × (ends_atom rest ≡ true) ×
+      (a : Atom) × (s : BoundSide) × (rest : List Terminal) × (is_parens a ≡ false) × (ends_atom rest ≡ true) ×
       (side_of scope type_of (front a) ≡ Ok s) ×
       (first ≡ side_read s) × (ts ≡ tail a rest)
 
   -- what follows the operand with which an atom begins is read so that the atom is
   abbrev pub ReadsTail : SideRead → List Terminal → Result Expr Refusal → List Terminal → Type 0
   ReadsTail first old read left =
-      (a : Atom) (s : Side) (rest : List Terminal) → is_parens a ≡ false → ends_atom rest ≡ true →
+      (a : Atom) (s : BoundSide) (rest : List Terminal) → is_parens a ≡ false → ends_atom rest ≡ true →
       side_of scope type_of (front a) ≡ Ok s →
       first ≡ side_read s → old ≡ tail a rest → Reads cond (meaning_of_atom scope type_of a) rest read left
 

@@ -32,10 +32,10 @@ abbrev pub IfCapped : ℕ → (ℕ → Type 0) → Type 0
 IfCapped magnitude P = (n : ℕ) → magnitude ≡ min n (2 ^ 64 - 1) → P n
 
 -- a value, or the fault of a literal at this token that is none of the type
-abbrev pub value_at : Token → Result Value FieldFault → Result Value Fault
-value_at token (Ok v) = Ok v
-value_at token (Err Range) = Err (fault_at S11 token)
-value_at token (Err _) = Err (fault_at S12 token)
+abbrev pub value_or_fault : Token → Result Value FieldFault → Result Value Fault
+value_or_fault token (Ok v) = Ok v
+value_or_fault token (Err Range) = Err (fault_at S11 token)
+value_or_fault token (Err _) = Err (fault_at S12 token)
 
 -- the type that a literal has by itself: a quoted text and NULL have none
 abbrev pub type_of_lit : Lit → Option SqlType
@@ -49,9 +49,9 @@ type_of_lit (constant unknown k) = None
 -- the value of a literal in a condition, where a quoted text has this type: a number is an int8, and a quoted text is read
 -- as the text of a field, but never as NULL
 abbrev pub literal_value : SqlType → Lit → Result Value Fault
-literal_value t (number n) = value_at n.token (ranged types.Int8 (Some (written false n)))
-literal_value t (negative minus n) = value_at minus (ranged types.Int8 (Some (written true n)))
-literal_value t (quoted q) = value_at q.token (field_value t q.value)
+literal_value t (number n) = value_or_fault n.token (ranged types.Int8 (Some (written false n)))
+literal_value t (negative minus n) = value_or_fault minus (ranged types.Int8 (Some (written true n)))
+literal_value t (quoted q) = value_or_fault q.token (field_value t q.value)
 literal_value t (constant yes k) = Ok (values.Bool true)
 literal_value t (constant no k) = Ok (values.Bool false)
 literal_value t (constant unknown k) = Ok values.Null
@@ -60,7 +60,7 @@ literal_value t (constant unknown k) = Ok values.Null
 abbrev pub number_as : SqlType → Token → ℤ → Result Value Fault
 number_as types.Text token n = Err (fault_at S10 token)
 number_as types.Bool token n = Err (fault_at S10 token)
-number_as t token n = value_at token (ranged t (Some n))
+number_as t token n = value_or_fault token (ranged t (Some n))
 
 -- a truth value, given at this token, as a value of a column of this type
 abbrev pub flag_as : SqlType → Token → Bool → Result Value Fault
@@ -71,7 +71,7 @@ flag_as _ token b = Err (fault_at S10 token)
 abbrev pub typed_value : SqlType → Lit → Result Value Fault
 typed_value t (number n) = number_as t n.token (written false n)
 typed_value t (negative minus n) = number_as t minus (written true n)
-typed_value t (quoted q) = value_at q.token (field_value t q.value)
+typed_value t (quoted q) = value_or_fault q.token (field_value t q.value)
 typed_value t (constant yes k) = flag_as t k true
 typed_value t (constant no k) = flag_as t k false
 typed_value t (constant unknown k) = Err (fault_at S17 k)

@@ -7,7 +7,7 @@ use Rattle.pg_expr.specs.declared.operand.ColRef.{ColRef}
 use Rattle.sql_lex.specs.declared.tokens.Token.{Token}
 use Rattle.sql_grammar.specs.declared.class.Word.TheVariants.{Is, Not, Null}
 use Rattle.sql_grammar.specs.Terminals.{Terminal, Said, t_key}
-use Rattle.sql_grammar.specs.Syntax.{Lit, number, negative, quoted, constant, Operand}
+use Rattle.sql_grammar.specs.Syntax.{Lit, number, negative, quoted, constant, OperandTree}
 use Rattle.expr_reader.specs.Reading.{numbered, operator_said}
 use Rattle.expr_reader.specs.declared.cursor.Operator.{Operator}
 use Rattle.expr_reader.specs.declared.written.Literal.{Literal}
@@ -15,7 +15,7 @@ use Rattle.expr_reader.specs.declared.written.Literal.TheVariants.{Whole, Quoted
 use Rattle.expr_reader.specs.declared.written.Side.{Side as SideRead}
 use Rattle.expr_reader.specs.declared.written.Side.TheVariants.{Column, Literal as LiteralSide}
 use Rattle.expr_reader.specs.Scope.{Scope}
-use Rattle.expr_reader.specs.Conditions.{next, Side, of_column, of_literal, compare_sides, side_of, truth_of_constant}
+use Rattle.expr_reader.specs.Conditions.{next, BoundSide, of_column, of_literal, compare_sides, side_of, truth_of_constant}
 
 -- a whole number with its sign and its first token
 abbrev pub whole : Bool → Token → Said → Literal
@@ -29,18 +29,18 @@ literal_of (quoted q) = Quoted (record { bytes = q.value; token = q.token })
 literal_of (constant c k) = ConstantOf (truth_of_constant c) k
 
 -- a side of a comparison whose column is found
-abbrev pub side_read : Side → SideRead
+abbrev pub side_read : BoundSide → SideRead
 side_read (of_column c t token) = Column c t token
 side_read (of_literal l) = LiteralSide (literal_of l)
 
 -- the side that an operand means, or the fault of its column
-abbrev pub side_meant : Scope → (ColRef → SqlType) → Operand → Result SideRead Fault
+abbrev pub side_meant : Scope → (ColRef → SqlType) → OperandTree → Result SideRead Fault
 side_meant scope type_of o = next (side_of scope type_of o) (λ s. Ok (side_read s))
 
 -- what the comparison of two sides by an operator, as they are read, means, or its fault
 abbrev pub IsComparison : Operator → SideRead → SideRead → Result Cond Fault → Type 0
 IsComparison operator left right meant =
-    (o : Said) (a b : Side) → operator ≡ operator_said o → left ≡ side_read a → right ≡ side_read b → meant ≡ compare_sides o a b
+    (o : Said) (a b : BoundSide) → operator ≡ operator_said o → left ≡ side_read a → right ≡ side_read b → meant ≡ compare_sides o a b
 
 -- NULL or NOT NULL is next
 abbrev pub IsNullWords : List Terminal → Type 0

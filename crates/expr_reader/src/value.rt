@@ -8,7 +8,7 @@ ghost use Rattle.sql_lex.specs.declared.tokens.Token.{Token};
 ghost use Rattle.sql_grammar.specs.Terminals.{Terminal};
 ghost use Rattle.sql_grammar.specs.Syntax.{Lit};
 ghost use Rattle.sql_grammar.specs.Words.{words_of_lit};
-ghost use Rattle.expr_reader.specs.Literals.{value_at, literal_value as literal_value_of, typed_value as typed_value_of, number_as as number_as_of, flag_as as flag_as_of, place_of_lit, IfCapped};
+ghost use Rattle.expr_reader.specs.Literals.{value_or_fault, literal_value as literal_value_of, typed_value as typed_value_of, number_as as number_as_of, flag_as as flag_as_of, place_of_lit, IfCapped};
 ghost use Rattle.expr_reader.specs.Written.{literal_of};
 ghost use Rattle.expr_reader.specs.Reading.{IfWords};
 ghost use Rattle.expr_reader.specs.Expressions.{ReadsLiteral};
@@ -33,7 +33,7 @@ pub struct Placed {
 
 /// A value, or the fault of the literal at this token that spells none.
 fn spelled_value(value: Result<Value, FieldFault>, token: Token) -> Result<Value, Fault>
-    ensures { result ≡ value_at token value }
+    ensures { result ≡ value_or_fault token value }
 {
     match value {
         Ok(value) => Ok(value),
@@ -45,14 +45,14 @@ fn spelled_value(value: Result<Value, FieldFault>, token: Token) -> Result<Value
 /// A whole number of an integer type.
 fn whole_value(t: SqlType, minus: bool, magnitude: u64, token: Token) -> Result<Value, Fault>
     requires integer { 0 < limit t }
-    ensures { IfCapped magnitude (λ n. result ≡ value_at token (ranged t (Some (signed minus n)))) }
+    ensures { IfCapped magnitude (λ n. result ≡ value_or_fault token (ranged t (Some (signed minus n)))) }
 {
     spelled_value(signed_value(t, minus, magnitude), token)
 }
 
 /// A quoted text as a value of the type. No memory is wanted: a text is handed on, and no other value takes any.
 fn quoted_value(alloc: Global, t: SqlType, text: Spelled) -> Result<Value, Fault>
-    ensures { result ≡ value_at text.token (field_value t text.bytes) }
+    ensures { result ≡ value_or_fault text.token (field_value t text.bytes) }
 {
     let Spelled { bytes, token } = text;
     match t {

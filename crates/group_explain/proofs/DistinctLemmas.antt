@@ -13,7 +13,7 @@ use Rattle.eq_classes.specs.Classes.{Class}
 use Rattle.eq_classes.specs.Clauses.{first_in}
 use Rattle.eq_classes.specs.Listing.{blank, class_at}
 use Rattle.eq_classes.proofs.ListLemmas.{IsIn, found_in, in_from_contains}
-use Rattle.path_cost.specs.Columns.{AreTables, is_column_in, known, stats_or}
+use Rattle.path_cost.specs.Columns.{AreTables, is_column_in, known_statistics, stats_or}
 use Rattle.path_cost.proofs.ColumnLemmas.{column_laws, stats_lawful, unknown_lawful}
 use Rattle.path_cost.proofs.LimitLemmas.{rows-some}
 use Rattle.plan_laws.proofs.WellBoundLemmas.{bound-over}
@@ -29,7 +29,7 @@ module _ (c : Contents) (q : Query) (lawful : IsLawful c) (bound : IsWellBound c
   column-in : (x : ColRef) → IsColumnOf c q.range x → is_column_in c q.range x ≡ true
   column-in x of = ap₂ (λ a b. a && b) (lt-ltb _ _ of.relation) (lt-ltb _ _ of.column)
 
-  known-some : (x : ColRef) → IsTable c (table_of q.range x) → (o : Option Statistics) → known c q.range x ≡ o → 1 ≤ (stats_or (rows_of c (table_of q.range x)) o).distinct
+  known-some : (x : ColRef) → IsTable c (table_of q.range x) → (o : Option Statistics) → known_statistics c q.range x ≡ o → 1 ≤ (stats_or (rows_of c (table_of q.range x)) o).distinct
   known-some x there None e = (unknown_lawful (type_in c q.range x) (rows_of c (table_of q.range x)) (rows-some c (table_of q.range x) lawful there)).some
   known-some x there (Some s) e = (stats_lawful c (table_of q.range x) x.col s lawful there e).some
 
@@ -49,7 +49,7 @@ module _ (c : Contents) (q : Query) (lawful : IsLawful c) (bound : IsWellBound c
       let class : IsIn k q.classes.classes = in_from_contains q.classes.classes k (n, lt, get_or_default q.classes.classes n k blank lt) in
       let of : IsColumnOf c q.range x = member_is c q bound k class x inside in
       let laws = column_laws c q.range x tables (column-in x of) in
-      known-some x laws.1 (known c q.range x) refl
+      known-some x laws.1 (known_statistics c q.range x) refl
 
   pub distinct-some : (n : ℕ) → 1 ≤ distinct_of c q n
   distinct-some n = first-some n (first_in (class_at q.classes.classes n) (all_of_query q)) refl

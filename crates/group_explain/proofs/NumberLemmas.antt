@@ -8,7 +8,7 @@ use Rattle.plan_tree.specs.Costs.{cost}
 use Rattle.plan_tree.specs.Plans.{Plan}
 use Rattle.group_values.specs.declared.form.Form.{Form}
 use Rattle.group_values.specs.declared.form.Form.TheVariants.{Sorted, Hashed}
-use Rattle.group_values.specs.GroupCosts.{group_total, is_offered, product, row_tests, sorts_after}
+use Rattle.group_values.specs.GroupCosts.{group_total, is_offered, combinations, row_tests, sorts_after}
 use Rattle.group_values.specs.declared.task.GroupTask.{GroupTask}
 use Rattle.group_explain.specs.GroupPlans.{GroupQuery, IsGroupPlan, IsTaskOf, input_query}
 use Rattle.sql_query.specs.Grouped.{GroupedQuery}
@@ -16,10 +16,10 @@ use Rattle.group_explain.specs.Plans.{HasNoGroupPlan}
 use Rattle.group_explain.specs.Texts.{group_query}
 
 abbrev cost_of : Form → ℕ → ℕ → List ℕ → ℕ → ℕ
-cost_of f n rows ds calls = n + rows * row_tests f (length ds) calls * OPERATOR + min rows (product ds) * TUPLE
+cost_of f n rows ds calls = n + rows * row_tests f (length ds) calls * OPERATOR + min rows (combinations ds) * TUPLE
 
 abbrev total_of : Form → ℕ → Bool → ℕ → List ℕ → ℕ → ℕ
-total_of f n b rows ds calls = cond b (sort_cost (pair 0 (cost_of f n rows ds calls)) (min rows (product ds))).total (cost_of f n rows ds calls)
+total_of f n b rows ds calls = cond b (sort_cost (pair 0 (cost_of f n rows ds calls)) (min rows (combinations ds))).total (cost_of f n rows ds calls)
 
 total-is : (f : Form) (t : GroupTask) (n : ℕ) → group_total f t n ≡ total_of f n (sorts_after f t) t.rows t.distinct.items t.calls
 total-is f t n = refl

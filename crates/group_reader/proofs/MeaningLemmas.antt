@@ -18,7 +18,7 @@ use Rattle.sql_query.specs.declared.grouped.Item.{Item}
 use Rattle.query_reader.specs.Order.{order_item, order_items}
 use Rattle.group_reader.specs.declared.parts.Part.{Part}
 use Rattle.group_reader.specs.declared.written.Column.{Column}
-use Rattle.group_reader.specs.Binding.{BoundLists, all_grouped, group_columns, grouper, item_parts, keys_by, known_call, list_parts, lists_bound, order_words, over_column, over_rows, shown_columns, word_of_ordering}
+use Rattle.group_reader.specs.Binding.{BoundLists, all_grouped, group_columns, grouper, item_parts, grouping_columns, known_call, list_parts, lists_bound, order_words, over_column, over_rows, shown_columns, word_of_ordering}
 use Rattle.group_reader.specs.Meaning.{column_by, column_meant, keys_said, known, last_word, list_said, listed_said, lists_said, part_alone, sorting_said, then_parts}
 use Rattle.group_reader.specs.Written.{column_written, columns_written, listed_of, sorting_of, sorts_written}
 
@@ -49,7 +49,7 @@ module _ (scope : Scope) where
   groups-same no_group_by = refl
   groups-same (group_by k t c cs) = ap₂ before_all (column-same c) (each-parts (column_meant scope) (column_of scope) column_written column-same cs)
 
-  keys-same : (d : Bool) (b : GroupBy) (ps : List Part) → keys_said scope d (columns_written b) ps ≡ keys_by scope (grouper d b) ps
+  keys-same : (d : Bool) (b : GroupBy) (ps : List Part) → keys_said scope d (columns_written b) ps ≡ grouping_columns scope (grouper d b) ps
   keys-same true b ps = refl
   keys-same false b ps = groups-same b
 
@@ -111,5 +111,5 @@ module _ (scope : Scope) (type_of : ColRef → SqlType) where
       (λ ps. ap (O ps (map last_word (sorts_written y)) (said ps)) (orders-same scope (shown_columns ps) y))
       ∙ (ap (λ (ws : List Token). L (λ ps. order_items scope (shown_columns ps) y) ws said (list_parts scope type_of is)) (words-same y)
       ∙ next-same (list_parts scope type_of is) (λ ps. O ps (order_words y) (said ps) (order_items scope (shown_columns ps) y))
-      (λ ps. O ps (order_words y) (keys_by scope (grouper d b) ps) (order_items scope (shown_columns ps) y))
+      (λ ps. O ps (order_words y) (grouping_columns scope (grouper d b) ps) (order_items scope (shown_columns ps) y))
       (λ ps. ap (λ (k : Result (List ColRef) Fault). O ps (order_words y) k (order_items scope (shown_columns ps) y)) (keys-same scope d b ps))))

@@ -113,9 +113,9 @@ grouper true b = shown
 grouper false b = columns_of b
 
 -- the columns that a SELECT is grouped by, where its list is bound to these parts
-abbrev pub keys_by : Scope → Grouper → List Part → Result (List ColRef) Fault
-keys_by scope (columns_of b) ps = group_columns scope b
-keys_by scope shown ps = Ok (shown_columns ps)
+abbrev pub grouping_columns : Scope → Grouper → List Part → Result (List ColRef) Fault
+grouping_columns scope (columns_of b) ps = group_columns scope b
+grouping_columns scope shown ps = Ok (shown_columns ps)
 
 -- a column is itself one of the GROUP BY columns: that a condition makes it equal to one is not enough
 abbrev pub is_grouped : List ColRef → ColRef → Bool
@@ -164,7 +164,7 @@ abbrev pub lists_bound : Scope → (ColRef → SqlType) → List GroupedItem →
 lists_bound scope type_of items groups order =
     next (list_parts scope type_of items) (λ ps.
     next (order_items scope (shown_columns ps) order) (λ ordered.
-    next (keys_by scope groups ps) (λ keys.
+    next (grouping_columns scope groups ps) (λ keys.
     all_grouped keys ps ordered (order_words order) (record { parts = ps; order = ordered; keys = keys }))))
 
 -- a grouped SELECT with its names bound, apart from its classes

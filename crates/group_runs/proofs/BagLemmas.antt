@@ -9,14 +9,14 @@ use Rattle.pg_value.proofs.SortingLemmas.{in_order_is}
 use Rattle.pg_value.specs.declared.value.Value.{Value}
 use Rattle.plan_laws.proofs.PermLemmas.{Perm, none, keep, turn, join, Perm-filter, Perm-map, Perm-refl, Perm-same, Perm-sym, from_std, to_std}
 use Rattle.group_values.specs.declared.shape.Call.{Call}
-use Rattle.group_values.specs.Groups.{Seen, alike, firsts, groups, keys_of, line, lines, lines_of, same_keys, sorted, sorter_order, summaries, summary}
+use Rattle.group_values.specs.Groups.{Seen, alike, firsts, groups, keys_of_group, line, lines, lines_of_groups, same_keys, sorted, sorter_order, summaries, summary}
 use Rattle.group_values.specs.Shapes.{GroupShape, Summary}
 use Rattle.group_values.proofs.OrderLemmas.{sorters_total}
 use Rattle.group_runs.proofs.CallLemmas.{calls-moved}
 use Rattle.group_runs.proofs.KeyLemmas.{Keys, keys-moved, keys-of-firsts, once, once-moved, with_keys}
 use Rattle.group_values.proofs.SumLemmas.{no-width as no-keys}
 
-summary-as : (calls : List Call) (ss ts : List Seen) → Perm ss ts → keys_of ss ≡ keys_of ts → summary calls ss ≡ summary calls ts
+summary-as : (calls : List Call) (ss ts : List Seen) → Perm ss ts → keys_of_group ss ≡ keys_of_group ts → summary calls ss ≡ summary calls ts
 summary-as calls ss ts p e = ap₂ (λ (ks vs : List Value). let r : Summary = record { keys = ks; called = vs } in r) e (calls-moved calls 0 ss ts p)
 
 -- what is known of the group with some keys
@@ -73,7 +73,7 @@ sort-moves : {X : Type 0} (order : X → X → Ordering) (xs : List X) → Perm 
 sort-moves order [] = none
 sort-moves order (x ∷ xs) = join (put order x (in_order order xs)) (x ∷ in_order order xs) (x ∷ xs) (put-moves order x (in_order order xs)) (keep x (in_order order xs) xs (sort-moves order xs))
 
-lines-moved : (shape : GroupShape) (gs hs : List Summary) → Perm gs hs → Perm (lines_of shape gs) (lines_of shape hs)
+lines-moved : (shape : GroupShape) (gs hs : List Summary) → Perm gs hs → Perm (lines_of_groups shape gs) (lines_of_groups shape hs)
 lines-moved shape gs hs p =
     let order = one_after_other (map sorter_order shape.order) in
     Perm-map (line shape.items) (in_order order gs) (in_order order hs)

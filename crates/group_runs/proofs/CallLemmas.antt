@@ -8,7 +8,7 @@ use Rattle.pg_value.proofs.KindLemmas.{directed_total, tied-same}
 use Rattle.plan_laws.proofs.PermLemmas.{Perm, Perm-filter, Perm-map}
 use Rattle.group_values.specs.declared.shape.Call.{Call}
 use Rattle.group_values.specs.declared.shape.Call.TheVariants.{CountAll, Count, Min, Max}
-use Rattle.group_values.specs.Groups.{Seen, all_called, args_of, called, is_known, number}
+use Rattle.group_values.specs.Groups.{Seen, all_called, values_of_call, called, is_known, count_value}
 use Rattle.group_runs.proofs.LeastLemmas.{Perm-length, least-moved}
 use Rattle.pg_value.proofs.DirectionLemmas.{undirected_equal}
 
@@ -31,14 +31,14 @@ tied-last d (String t) (Int n) e = tied-same (String t) (Int n) (undirected_equa
 tied-last d (String t) (Flag b) e = tied-same (String t) (Flag b) (undirected_equal d (kind_order (String t) (Flag b)) e)
 tied-last d (String t) (String u) e = tied-same (String t) (String u) (undirected_equal d (kind_order (String t) (String u)) e)
 
-args-moved : (n : ℕ) (ss ts : List Seen) → Perm ss ts → Perm (args_of n ss) (args_of n ts)
+args-moved : (n : ℕ) (ss ts : List Seen) → Perm ss ts → Perm (values_of_call n ss) (values_of_call n ts)
 args-moved n ss ts p = Perm-filter is_known (map (λ (s : Seen). get_or s.args n Null) ss) (map (λ (s : Seen). get_or s.args n Null) ts) (Perm-map (λ (s : Seen). get_or s.args n Null) ss ts p)
 
 called-moved : (c : Call) (n : ℕ) (ss ts : List Seen) → Perm ss ts → called c n ss ≡ called c n ts
-called-moved CountAll n ss ts p = ap number (Perm-length ss ts p)
-called-moved Count n ss ts p = ap number (Perm-length (args_of n ss) (args_of n ts) (args-moved n ss ts p))
-called-moved Min n ss ts p = least-moved (directed_order false false) (directed_total false false) (tied-last false) (args_of n ss) (args_of n ts) (args-moved n ss ts p)
-called-moved Max n ss ts p = least-moved (directed_order true false) (directed_total true false) (tied-last true) (args_of n ss) (args_of n ts) (args-moved n ss ts p)
+called-moved CountAll n ss ts p = ap count_value (Perm-length ss ts p)
+called-moved Count n ss ts p = ap count_value (Perm-length (values_of_call n ss) (values_of_call n ts) (args-moved n ss ts p))
+called-moved Min n ss ts p = least-moved (directed_order false false) (directed_total false false) (tied-last false) (values_of_call n ss) (values_of_call n ts) (args-moved n ss ts p)
+called-moved Max n ss ts p = least-moved (directed_order true false) (directed_total true false) (tied-last true) (values_of_call n ss) (values_of_call n ts) (args-moved n ss ts p)
 
 pub calls-moved : (cs : List Call) (n : ℕ) (ss ts : List Seen) → Perm ss ts → all_called n cs ss ≡ all_called n cs ts
 calls-moved [] n ss ts p = refl

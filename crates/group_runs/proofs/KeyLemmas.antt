@@ -4,7 +4,7 @@ use Rattle.std.specs.Prelude.{filter}
 use Rattle.std.specs.List.{AllByRecursion}
 use Rattle.pg_value.specs.declared.value.Value.{Value}
 use Rattle.plan_laws.proofs.PermLemmas.{Perm, none, keep, turn, join, Perm-filter, Perm-refl, Perm-same}
-use Rattle.group_values.specs.Groups.{Seen, firsts, keys_of, same_keys}
+use Rattle.group_values.specs.Groups.{Seen, firsts, keys_of_group, same_keys}
 use Rattle.group_values.proofs.GroupLemmas.{alike_equiv}
 use Rattle.group_values.proofs.OrderLemmas.{same-is}
 use Rattle.group_runs.proofs.LeastLemmas.{Perm-length}
@@ -61,12 +61,12 @@ all-have k (s ∷ ss) = by (same_keys k s.keys) refl (all-have k ss)
     by false e more = more
 
 -- lists of as many tuples with the same keys
-same-first : (k : Keys) (ss ts : List Seen) → AllByRecursion (λ (t : Seen). t.keys ≡ k) ss → AllByRecursion (λ (t : Seen). t.keys ≡ k) ts → length ss ≡ length ts → keys_of ss ≡ keys_of ts
+same-first : (k : Keys) (ss ts : List Seen) → AllByRecursion (λ (t : Seen). t.keys ≡ k) ss → AllByRecursion (λ (t : Seen). t.keys ≡ k) ts → length ss ≡ length ts → keys_of_group ss ≡ keys_of_group ts
 same-first k [] [] p q e = refl
 same-first k [] (t ∷ ts) p q e = absurd (omega (arith, e))
 same-first k (s ∷ ss) [] p q e = absurd (omega (arith, e))
 same-first k (s ∷ ss) (t ∷ ts) p q e = p.0 ∙ sym q.0
 
-pub keys-moved : (k : Keys) (ss ts : List Seen) → Perm ss ts → keys_of (with_keys k ss) ≡ keys_of (with_keys k ts)
+pub keys-moved : (k : Keys) (ss ts : List Seen) → Perm ss ts → keys_of_group (with_keys k ss) ≡ keys_of_group (with_keys k ts)
 keys-moved k ss ts p =
     same-first k (with_keys k ss) (with_keys k ts) (all-have k ss) (all-have k ts) (Perm-length (with_keys k ss) (with_keys k ts) (Perm-filter (λ (t : Seen). same_keys k t.keys) ss ts p))

@@ -11,7 +11,7 @@ use Rattle.pg_value.specs.Sorting.{in_order}
 use Rattle.pg_value.proofs.KindLemmas.{directed_total}
 use Rattle.group_values.specs.declared.shape.Call.{Call}
 use Rattle.group_values.specs.declared.shape.Call.TheVariants.{CountAll, Count, Min, Max}
-use Rattle.group_values.specs.Groups.{Seen, all_called, args_of, called, first_or_null, is_known, number}
+use Rattle.group_values.specs.Groups.{Seen, all_called, values_of_call, called, first_or_null, is_known, count_value}
 use Rattle.group_values.specs.Steps.{blank, can_rise, first_of, has_room, have_room, risen, with_args, with_one}
 use Rattle.group_values.proofs.LeastLemmas.{first-more}
 use Rattle.group_values.proofs.OrderLemmas.{both-true}
@@ -19,14 +19,14 @@ use Rattle.group_values.proofs.OrderLemmas.{both-true}
 abbrev arg : ℕ → Seen → Value
 arg n s = get_or s.args n Null
 
-args-more : (n : ℕ) (ss : List Seen) (s : Seen) (b : Bool) → is_known (arg n s) ≡ b → args_of n (ss ++ s ∷ []) ≡ args_of n ss ++ cond b (arg n s ∷ []) []
+args-more : (n : ℕ) (ss : List Seen) (s : Seen) (b : Bool) → is_known (arg n s) ≡ b → values_of_call n (ss ++ s ∷ []) ≡ values_of_call n ss ++ cond b (arg n s ∷ []) []
 args-more n ss s b e =
     ap (filter is_known) (map-append (arg n) ss (s ∷ []))
     ∙ filter-append is_known (map (arg n) ss) (arg n s ∷ [])
     ∙ ap (λ c. filter is_known (map (arg n) ss) ++ cond c (arg n s ∷ []) []) e
 
-risen-is : (k l : ℕ) → l ≡ k + 1 → can_rise (number k) ≡ true → risen (number k) ≡ number l
-risen-is k l e h = ap (λ b. cond b (Int (pos k +ℤ pos 1)) (Int (pos k))) h ∙ ap number (sym e)
+risen-is : (k l : ℕ) → l ≡ k + 1 → can_rise (count_value k) ≡ true → risen (count_value k) ≡ count_value l
+risen-is k l e h = ap (λ b. cond b (Int (pos k +ℤ pos 1)) (Int (pos k))) h ∙ ap count_value (sym e)
 
 -- a value that is known stands before NULL, and NULL leaves what there is
 known-first : (d : Bool) (w : Value) → is_known w ≡ true → first_of d Null w ≡ w
@@ -48,25 +48,25 @@ first-kept : (d : Bool) (vs : List Value) (w : Value) → is_known w ≡ true �
 first-kept d [] w e = known-first d w e
 first-kept d (v ∷ vs) w e = sym (first-more (directed_order d false) (directed_total d false) (v ∷ vs) w)
 
-least-more : (d : Bool) (n : ℕ) (ss : List Seen) (s : Seen) → first_of d (first_or_null (in_order (directed_order d false) (args_of n ss))) (arg n s) ≡ first_or_null (in_order (directed_order d false) (args_of n (ss ++ s ∷ [])))
+least-more : (d : Bool) (n : ℕ) (ss : List Seen) (s : Seen) → first_of d (first_or_null (in_order (directed_order d false) (values_of_call n ss))) (arg n s) ≡ first_or_null (in_order (directed_order d false) (values_of_call n (ss ++ s ∷ [])))
 least-more d n ss s = by (is_known (arg n s)) refl
   where
-    by : (b : Bool) → is_known (arg n s) ≡ b → first_of d (first_or_null (in_order (directed_order d false) (args_of n ss))) (arg n s) ≡ first_or_null (in_order (directed_order d false) (args_of n (ss ++ s ∷ [])))
-    by true e = first-kept d (args_of n ss) (arg n s) e ∙ sym (ap (λ vs. first_or_null (in_order (directed_order d false) vs)) (args-more n ss s true e))
+    by : (b : Bool) → is_known (arg n s) ≡ b → first_of d (first_or_null (in_order (directed_order d false) (values_of_call n ss))) (arg n s) ≡ first_or_null (in_order (directed_order d false) (values_of_call n (ss ++ s ∷ [])))
+    by true e = first-kept d (values_of_call n ss) (arg n s) e ∙ sym (ap (λ vs. first_or_null (in_order (directed_order d false) vs)) (args-more n ss s true e))
     by false e =
-        null-last d (first_or_null (in_order (directed_order d false) (args_of n ss))) (arg n s) e
-        ∙ sym (ap (λ vs. first_or_null (in_order (directed_order d false) vs)) (args-more n ss s false e ∙ append-nil (args_of n ss)))
+        null-last d (first_or_null (in_order (directed_order d false) (values_of_call n ss))) (arg n s) e
+        ∙ sym (ap (λ vs. first_or_null (in_order (directed_order d false) vs)) (args-more n ss s false e ∙ append-nil (values_of_call n ss)))
 
-count-more : (n : ℕ) (ss : List Seen) (s : Seen) → can_rise (number (length (args_of n ss))) ≡ true → with_one Count (number (length (args_of n ss))) (arg n s) ≡ number (length (args_of n (ss ++ s ∷ [])))
+count-more : (n : ℕ) (ss : List Seen) (s : Seen) → can_rise (count_value (length (values_of_call n ss))) ≡ true → with_one Count (count_value (length (values_of_call n ss))) (arg n s) ≡ count_value (length (values_of_call n (ss ++ s ∷ [])))
 count-more n ss s h = by (is_known (arg n s)) refl
   where
-    by : (b : Bool) → is_known (arg n s) ≡ b → with_one Count (number (length (args_of n ss))) (arg n s) ≡ number (length (args_of n (ss ++ s ∷ [])))
+    by : (b : Bool) → is_known (arg n s) ≡ b → with_one Count (count_value (length (values_of_call n ss))) (arg n s) ≡ count_value (length (values_of_call n (ss ++ s ∷ [])))
     by true e =
-        ap (λ b. cond b (risen (number (length (args_of n ss)))) (number (length (args_of n ss)))) e
-        ∙ risen-is (length (args_of n ss)) (length (args_of n (ss ++ s ∷ []))) (ap (λ (l : List Value). length l) (args-more n ss s true e) ∙ length-append (args_of n ss) (arg n s ∷ [])) h
+        ap (λ b. cond b (risen (count_value (length (values_of_call n ss)))) (count_value (length (values_of_call n ss)))) e
+        ∙ risen-is (length (values_of_call n ss)) (length (values_of_call n (ss ++ s ∷ []))) (ap (λ (l : List Value). length l) (args-more n ss s true e) ∙ length-append (values_of_call n ss) (arg n s ∷ [])) h
     by false e =
-        ap (λ b. cond b (risen (number (length (args_of n ss)))) (number (length (args_of n ss)))) e
-        ∙ sym (ap (λ (l : List Value). number (length l)) (args-more n ss s false e ∙ append-nil (args_of n ss)))
+        ap (λ b. cond b (risen (count_value (length (values_of_call n ss)))) (count_value (length (values_of_call n ss)))) e
+        ∙ sym (ap (λ (l : List Value). count_value (length l)) (args-more n ss s false e ∙ append-nil (values_of_call n ss)))
 
 pub called-more : (c : Call) (n : ℕ) (ss : List Seen) (s : Seen) → has_room c (called c n ss) ≡ true → with_one c (called c n ss) (arg n s) ≡ called c n (ss ++ s ∷ [])
 called-more CountAll n ss s h = risen-is (length ss) (length (ss ++ s ∷ [])) (length-append ss (s ∷ [])) h

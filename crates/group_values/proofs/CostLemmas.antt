@@ -8,7 +8,7 @@ use Rattle.cost_rules.specs.Costs.{pair, sort_cost}
 use Rattle.cost_rules.proofs.RisingLemmas.{once-at_least, sort-child, sort-rises}
 use Rattle.group_values.specs.declared.form.Form.{Form}
 use Rattle.group_values.specs.declared.task.GroupTask.{GroupTask}
-use Rattle.group_values.specs.GroupCosts.{group_cost, group_total, groups_of, product, sorts_after}
+use Rattle.group_values.specs.GroupCosts.{group_cost, group_total, groups_of, combinations, sorts_after}
 
 assoc : (g d p : ℕ) → g * d * p ≡ g * (d * p)
 assoc g d p = omega arith
@@ -40,10 +40,10 @@ cut-more most g d p x e = ⊎_elim
     (cases_lt most (g * d))
 
 -- one more factor
-pub factor-more : (ns : List ℕ) (i n most g x : ℕ) → i < length ns → n ≡ get_or ns i 0 → x ≡ min most (g * n) → min most (g * product (drop i ns)) ≡ min most (product ns) → min most (x * product (drop (i + 1) ns)) ≡ min most (product ns)
+pub factor-more : (ns : List ℕ) (i n most g x : ℕ) → i < length ns → n ≡ get_or ns i 0 → x ≡ min most (g * n) → min most (g * combinations (drop i ns)) ≡ min most (combinations ns) → min most (x * combinations (drop (i + 1) ns)) ≡ min most (combinations ns)
 factor-more ns i n most g x lt is e before =
-    cut-more most g n (product (drop (i + 1) ns)) x e
-    ∙ ap (λ ms. min most (g * product ms)) (ap (λ k. k ∷ drop (i + 1) ns) is ∙ sym (drop_more ns i 0 lt))
+    cut-more most g n (combinations (drop (i + 1) ns)) x e
+    ∙ ap (λ ms. min most (g * combinations ms)) (ap (λ k. k ∷ drop (i + 1) ns) is ∙ sym (drop_more ns i 0 lt))
     ∙ before
 
 rise-by : (b : Bool) (n x y : ℕ) → x ≤ y → cond b (sort_cost (pair 0 x) n).total x ≤ cond b (sort_cost (pair 0 y) n).total y
@@ -64,6 +64,6 @@ pub total-input : (f : Form) (t : GroupTask) (a : ℕ) → a ≤ group_total f t
 total-input f t a = at-least a (group_cost f t a) (group_total f t a) (omega arith) (child-by (sorts_after f t) (groups_of t) (group_cost f t a))
 
 -- where each group key has a value there is a list of values
-pub product-some : (ns : List ℕ) → All (λ n. 1 ≤ n) ns → 1 ≤ product ns
+pub product-some : (ns : List ℕ) → All (λ n. 1 ≤ n) ns → 1 ≤ combinations ns
 product-some [] all = omega arith
-product-some (n ∷ ns) all = omega (arith, product-some ns (All-tail (λ n. 1 ≤ n) n ns all), once-at_least n (product ns) (All-head (λ n. 1 ≤ n) n ns all))
+product-some (n ∷ ns) all = omega (arith, product-some ns (All-tail (λ n. 1 ≤ n) n ns all), once-at_least n (combinations ns) (All-head (λ n. 1 ≤ n) n ns all))

@@ -4,7 +4,7 @@ use Rattle.std.proofs.lemmas.List.{map_push, take_more}
 use Rattle.pg_value.specs.Sorting.{put}
 use Rattle.pg_value.specs.declared.value.Value.{Value}
 use Rattle.group_values.specs.declared.shape.Shown.{Shown}
-use Rattle.group_values.specs.Groups.{line, lines_of, sorted}
+use Rattle.group_values.specs.Groups.{line, lines_of_groups, sorted}
 use Rattle.group_values.specs.Shapes.{GroupShape, Summary}
 use Rattle.group_values.specs.Grouping.{final_shape}
 
@@ -17,7 +17,7 @@ unsorted (g ∷ gs) = ap (put (λ g h. Equal) g) (unsorted gs) ∙ first g gs
     first g [] = refl
     first g (h ∷ hs) = refl
 
-pub lines-as-they-are : (shape : GroupShape) (gs : List Summary) (sort_after : Bool) → sort_after ≡ false → map (line shape.items) gs ≡ lines_of (final_shape sort_after shape) gs
+pub lines-as-they-are : (shape : GroupShape) (gs : List Summary) (sort_after : Bool) → sort_after ≡ false → map (line shape.items) gs ≡ lines_of_groups (final_shape sort_after shape) gs
 lines-as-they-are shape gs false e = ap (map (line shape.items)) (sym (unsorted gs))
 lines-as-they-are shape gs true e = cc e
 

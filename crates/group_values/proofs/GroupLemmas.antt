@@ -8,7 +8,7 @@ use Rattle.std.proofs.lemmas.Cmp.{eq_by_cmp_equiv}
 use Rattle.std.proofs.lemmas.List.Elements.{filter-append}
 use Rattle.pg_value.specs.declared.value.Value.{Value}
 use Rattle.pg_value.proofs.KindLemmas.{kind_total}
-use Rattle.group_values.specs.Groups.{Seen, alike, firsts, keys_of, same_keys, same_value}
+use Rattle.group_values.specs.Groups.{Seen, alike, firsts, keys_of_group, same_keys, same_value}
 use Rattle.group_values.proofs.OrderLemmas.{both-true}
 
 pub same_equiv : IsEquivalence same_value
@@ -104,13 +104,13 @@ firsts-unlike (s ∷ ss) = (
 )
 
 -- a group has the keys of its first
-pub first-keys : (ss : List Seen) → AllByRecursion (λ f. keys_of (filter (alike f) ss) ≡ f.keys) (firsts ss)
+pub first-keys : (ss : List Seen) → AllByRecursion (λ f. keys_of_group (filter (alike f) ss) ≡ f.keys) (firsts ss)
 first-keys [] = tt
 first-keys (s ∷ ss) = (
-  ap (λ b. keys_of (cond b (s ∷ filter (alike s) ss) (filter (alike s) ss))) (alike_equiv.refl s),
-  all-weaker (λ f. (keys_of (filter (alike f) ss) ≡ f.keys) × (not (alike s f) ≡ true)) (λ f. keys_of (filter (alike f) (s ∷ ss)) ≡ f.keys) (filter (λ f. not (alike s f)) (firsts ss))
-      (λ f h. ap (λ b. keys_of (cond b (s ∷ filter (alike f) ss) (filter (alike f) ss))) (alike_equiv.symm f s ∙ not-true (alike s f) h.1) ∙ h.0)
-      (all-kept (λ f. keys_of (filter (alike f) ss) ≡ f.keys) (λ f. not (alike s f)) (firsts ss) (first-keys ss)),
+  ap (λ b. keys_of_group (cond b (s ∷ filter (alike s) ss) (filter (alike s) ss))) (alike_equiv.refl s),
+  all-weaker (λ f. (keys_of_group (filter (alike f) ss) ≡ f.keys) × (not (alike s f) ≡ true)) (λ f. keys_of_group (filter (alike f) (s ∷ ss)) ≡ f.keys) (filter (λ f. not (alike s f)) (firsts ss))
+      (λ f h. ap (λ b. keys_of_group (cond b (s ∷ filter (alike f) ss) (filter (alike f) ss))) (alike_equiv.symm f s ∙ not-true (alike s f) h.1) ∙ h.0)
+      (all-kept (λ f. keys_of_group (filter (alike f) ss) ≡ f.keys) (λ f. not (alike s f)) (firsts ss) (first-keys ss)),
 )
 
 -- at a place of a list

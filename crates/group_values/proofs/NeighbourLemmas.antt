@@ -5,7 +5,7 @@ use Rattle.std.specs.Prelude.{filter}
 use Rattle.std.proofs.lemmas.Bool.{true≢false}
 use Rattle.std.proofs.lemmas.List.{get_or-map, get_or_append_left, length-append, length-map}
 use Rattle.group_values.specs.Shapes.{GroupShape, Summary}
-use Rattle.group_values.specs.Groups.{IsSumOf, Seen, alike, firsts, groups, keys_of, same_keys, summary}
+use Rattle.group_values.specs.Groups.{IsSumOf, Seen, alike, firsts, groups, keys_of_group, same_keys, summary}
 use Rattle.group_values.specs.Steps.{IsLastAlone, group_at, none}
 use Rattle.group_values.proofs.GroupLemmas.{AreUnlike, all-at, first-keys, firsts-unlike}
 use Rattle.group_values.specs.declared.shape.Call.{Call}
@@ -105,8 +105,8 @@ keyed calls ss s later gs is together n lt =
     let keys : (group_at gs n).keys ≡ (seen_at (firsts ss) n).keys =
     ap (λ l. (group_at l n).keys) is
     ∙ ap (λ (g : Summary). g.keys) (get_or-map (summary calls) (map (λ f. filter (alike f) ss) (firsts ss)) n [] none (omega (arith, within, length-map (firsts ss) (λ f. filter (alike f) ss))))
-    ∙ ap keys_of (get_or-map (λ f. filter (alike f) ss) (firsts ss) n blank [] within)
-    ∙ all-at (λ f. keys_of (filter (alike f) ss) ≡ f.keys) (firsts ss) n blank (first-keys ss) within in
+    ∙ ap keys_of_group (get_or-map (λ f. filter (alike f) ss) (firsts ss) n blank [] within)
+    ∙ all-at (λ f. keys_of_group (filter (alike f) ss) ≡ f.keys) (firsts ss) n blank (first-keys ss) within in
     ap (λ ks. same_keys ks s.keys) keys ∙ ended ss s later n together (omega (arith, many, lt)) (alike (seen_at (firsts ss) n) s) refl
 
 by-width : (w : ℕ) (calls : List Call) (ss : List Seen) (s : Seen) (later : List Seen) (gs : List Summary) → gs ≡ map (summary calls) (groups w ss) → AreTogether (ss ++ s ∷ later) → IsLastAlone gs s.keys

@@ -8,7 +8,7 @@ use Rattle.std.proofs.lemmas.List.Elements.{All-push, All-head}
 use Rattle.pg_value.specs.declared.value.Value.{Value}
 use Rattle.group_values.specs.declared.shape.Call.{Call}
 use Rattle.group_values.specs.Shapes.{GroupShape, Summary}
-use Rattle.group_values.specs.Groups.{IsSumOf, Seen, alike, all_called, firsts, groups, keys_of, same_keys, summary}
+use Rattle.group_values.specs.Groups.{IsSumOf, Seen, alike, all_called, firsts, groups, keys_of_group, same_keys, summary}
 use Rattle.group_values.specs.Steps.{at_first, begun, blank, group_at, have_room, joined, none, with_args}
 use Rattle.group_values.proofs.CallLemmas.{blank-room, calls-more, none-called}
 use Rattle.group_values.proofs.GroupLemmas.{alike_equiv, all-at, any-at, any-first, any-none, first-keys, firsts-more, firsts-unlike, group-more, is_alike_one, none-left, none-more, one-more}
@@ -17,12 +17,12 @@ no-keys : (ks : List Value) → same_keys [] ks ≡ true → ks ≡ []
 no-keys [] e = refl
 no-keys (k ∷ ks) e = absurd (false≢true e)
 
-keys-kept : (g : List Seen) (s : Seen) → same_keys (keys_of g) s.keys ≡ true → keys_of (g ++ s ∷ []) ≡ keys_of g
+keys-kept : (g : List Seen) (s : Seen) → same_keys (keys_of_group g) s.keys ≡ true → keys_of_group (g ++ s ∷ []) ≡ keys_of_group g
 keys-kept [] s e = no-keys s.keys e
 keys-kept (t ∷ ts) s e = refl
 
 -- a group that a tuple joins
-joined-is : (calls : List Call) (g : List Seen) (s : Seen) → length s.args ≡ length calls → same_keys (keys_of g) s.keys ≡ true → have_room calls (all_called 0 calls g) ≡ true
+joined-is : (calls : List Call) (g : List Seen) (s : Seen) → length s.args ≡ length calls → same_keys (keys_of_group g) s.keys ≡ true → have_room calls (all_called 0 calls g) ≡ true
     → summary calls (g ++ s ∷ []) ≡ joined calls s.args (summary calls g)
 joined-is calls g s m e h =
     ap₂ (λ (ks vs : List Value). let r : Summary = record { keys = ks; called = vs } in r) (keys-kept g s e) (sym (calls-more calls g s m h))
@@ -48,7 +48,7 @@ module _ (calls : List Call) (ss : List Seen) (s : Seen) (many : length s.args �
       ∙ ap (summary calls) (get_or-map members (firsts ss) n d [] lt)
 
   keys-at : (n : ℕ) (d : Seen) → n < length (firsts ss) → (group_at (map (summary calls) (map members (firsts ss))) n).keys ≡ (get_or (firsts ss) n d).keys
-  keys-at n d lt = ap (λ (g : Summary). g.keys) (at-first n d lt) ∙ all-at (λ f. keys_of (filter (alike f) ss) ≡ f.keys) (firsts ss) n d (first-keys ss) lt
+  keys-at n d lt = ap (λ (g : Summary). g.keys) (at-first n d lt) ∙ all-at (λ f. keys_of_group (filter (alike f) ss) ≡ f.keys) (firsts ss) n d (first-keys ss) lt
 
   join-keyed : (n : ℕ) → n < length (firsts ss) → (gs : List Summary) → gs ≡ map (summary calls) (map members (firsts ss)) → same_keys (group_at gs n).keys s.keys ≡ true → have_room calls (group_at gs n).called ≡ true
       → set gs n (joined calls s.args (group_at gs n)) ≡ map (summary calls) (map (λ f. filter (alike f) (ss ++ s ∷ [])) (firsts (ss ++ s ∷ [])))
@@ -100,7 +100,7 @@ join-by (suc w) calls ss s gs n many is lt same room =
     join-keyed calls ss s many n
     (omega (arith, lt, ap (λ (l : List Summary). length l) is, length-map (map (members calls ss s many) (firsts ss)) (summary calls), length-map (firsts ss) (members calls ss s many))) gs is same room
 
-pub no-width : (ss : List Seen) → All (λ (s : Seen). length s.keys ≡ 0) ss → keys_of ss ≡ []
+pub no-width : (ss : List Seen) → All (λ (s : Seen). length s.keys ≡ 0) ss → keys_of_group ss ≡ []
 no-width [] all = refl
 no-width (s ∷ ss) all = nil_from_length s.keys (All-head (λ (s : Seen). length s.keys ≡ 0) s ss all)
 

@@ -13,13 +13,13 @@ pub record IsTask (t : GroupTask) : Type 0 where
   pub distinct : All (λ n. 1 ≤ n) t.distinct.items
 
 -- how many lists there are of one value of each column, where the columns have so many different ones
-abbrev pub product : List ℕ → ℕ
-product [] = 1
-product (n ∷ ns) = n * product ns
+abbrev pub combinations : List ℕ → ℕ
+combinations [] = 1
+combinations (n ∷ ns) = n * combinations ns
 
 -- how many groups there are taken to be: as many as lists of different values, one of each group key, but no more than rows
 abbrev pub groups_of : GroupTask → ℕ
-groups_of t = min t.rows (product t.distinct.items)
+groups_of t = min t.rows (combinations t.distinct.items)
 
 -- hashed groups need a key
 abbrev pub is_offered : Form → GroupTask → Bool

@@ -50,8 +50,8 @@ is_known Null = false
 is_known _ = true
 
 -- the values of a call's column in a group that are not NULL
-abbrev pub args_of : ℕ → List Seen → List Value
-args_of n ss = filter is_known (map (λ (s : Seen). slice_index_or s.args n Null) ss)
+abbrev pub values_of_call : ℕ → List Seen → List Value
+values_of_call n ss = filter is_known (map (λ (s : Seen). slice_index_or s.args n Null) ss)
 
 -- what min and max give of the values in their order: NULL of none
 abbrev pub first_or_null : List Value → Value
@@ -59,16 +59,16 @@ first_or_null [] = Null
 first_or_null (v ∷ vs) = v
 
 -- a number of tuples as a value, an int8
-abbrev pub number : ℕ → Value
-number n = Int (pos n)
+abbrev pub count_value : ℕ → Value
+count_value n = Int (pos n)
 
 -- what a call gives, where its column is the one of this number: the number of tuples, that of the values that are not NULL,
 -- the least or the greatest of these, NULL where there is none
 abbrev pub called : Call → ℕ → List Seen → Value
-called CountAll n ss = number (length ss)
-called Count n ss = number (length (args_of n ss))
-called Min n ss = first_or_null (in_order (directed_order false false) (args_of n ss))
-called Max n ss = first_or_null (in_order (directed_order true false) (args_of n ss))
+called CountAll n ss = count_value (length ss)
+called Count n ss = count_value (length (values_of_call n ss))
+called Min n ss = first_or_null (in_order (directed_order false false) (values_of_call n ss))
+called Max n ss = first_or_null (in_order (directed_order true false) (values_of_call n ss))
 
 -- what calls give, the first of which has the column of this number
 abbrev pub all_called : ℕ → List Call → List Seen → List Value
@@ -76,26 +76,26 @@ all_called n [] ss = []
 all_called n (c ∷ cs) ss = called c n ss ∷ all_called (suc n) cs ss
 
 -- the values of the GROUP BY columns in a group: they are the same at each of its tuples
-abbrev pub keys_of : List Seen → List Value
-keys_of [] = []
-keys_of (s ∷ ss) = s.keys
+abbrev pub keys_of_group : List Seen → List Value
+keys_of_group [] = []
+keys_of_group (s ∷ ss) = s.keys
 
 -- what is known of a group
 abbrev pub summary : List Call → List Seen → Summary
-summary calls ss = record { keys = keys_of ss; called = all_called 0 calls ss }
+summary calls ss = record { keys = keys_of_group ss; called = all_called 0 calls ss }
 
 -- what is known of each group of these tuples, in the order of the groups' first tuples
 abbrev pub summaries : GroupShape → List Seen → List Summary
 summaries shape ss = map (summary shape.calls) (groups shape.width ss)
 
 -- what an item of the list shows of a group
-abbrev pub cell : Summary → Shown → Value
-cell g (Key n) = slice_index_or g.keys n Null
-cell g (Called n) = slice_index_or g.called n Null
+abbrev pub shown_value : Summary → Shown → Value
+shown_value g (Key n) = slice_index_or g.keys n Null
+shown_value g (Called n) = slice_index_or g.called n Null
 
 -- the line of a group
 abbrev pub line : List Shown → Summary → List Value
-line items g = map (cell g) items
+line items g = map (shown_value g) items
 
 -- a group's value of the GROUP BY column that an item of ORDER BY names
 abbrev pub key_at : Sorter → Summary → Value
@@ -110,12 +110,12 @@ abbrev pub sorted : List Sorter → List Summary → List Summary
 sorted order gs = in_order (one_after_other (map sorter_order order)) gs
 
 -- the lines of groups
-abbrev pub lines_of : GroupShape → List Summary → List (List Value)
-lines_of shape gs = map (line shape.items) (sorted shape.order gs)
+abbrev pub lines_of_groups : GroupShape → List Summary → List (List Value)
+lines_of_groups shape gs = map (line shape.items) (sorted shape.order gs)
 
 -- one line for each group of tuples
 abbrev pub lines : GroupShape → List Seen → List (List Value)
-lines shape ss = lines_of shape (summaries shape ss)
+lines shape ss = lines_of_groups shape (summaries shape ss)
 
 -- each tuple has as many keys as there are GROUP BY columns, and these are the groups of the tuples
 pub record IsSumOf (shape : GroupShape) (ss : List Seen) (gs : List Summary) : Type 0 where

@@ -3,7 +3,7 @@
 ghost use Rattle.std.specs.Prelude.{◌≡◌, ◌≤◌, ◌*◌, ◌^◌, min};
 ghost use Rattle.cost_rules.specs.Costs.{IsEstimate, capped};
 ghost use Rattle.cost_rules.specs.declared.parameters.TheConstants.{MOST_COST, MOST_ESTIMATE};
-ghost use Rattle.group_values.specs.GroupCosts.{IsTask, group_cost, group_total, groups_of, product, row_tests, sorts_after};
+ghost use Rattle.group_values.specs.GroupCosts.{IsTask, group_cost, group_total, groups_of, combinations, row_tests, sorts_after};
 
 use crate::Form;
 use crate::task::GroupTask;
@@ -22,7 +22,7 @@ pub fn groups(task: &GroupTask) -> u64
 fn lists_of_values(distinct: &[u64], most: u64) -> u64
     requires some { 1 ≤ most }
     requires few { most ≤ MOST_ESTIMATE }
-    ensures { result ≡ min most (product distinct.now) }
+    ensures { result ≡ min most (combinations distinct.now) }
 {
     let mut lists = 1;
     for count in distinct {

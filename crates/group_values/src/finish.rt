@@ -1,7 +1,7 @@
 //! The lines of groups in the end.
 
 ghost use Rattle.std.specs.Prelude.{◌≡◌, map, IfOk, OnOk};
-ghost use Rattle.group_values.specs.Groups.{line, lines_of, sorted};
+ghost use Rattle.group_values.specs.Groups.{line, lines_of_groups, sorted};
 ghost use Rattle.group_values.specs.Grouping.{final_shape};
 
 use crate::{Kept, Lines, Shape, Shown, Sorter, compare};
@@ -15,7 +15,7 @@ pub(crate) fn final_lines(
     sort_after: bool,
     mut groups: Vec<Kept>,
 ) -> Result<Lines, Memory>
-    ensures { IfOk result (λ l. l ≡ lines_of (final_shape sort_after shape.now) groups.items) }
+    ensures { IfOk result (λ l. l ≡ lines_of_groups (final_shape sort_after shape.now) groups.items) }
 {
     if !sort_after {
         return lines_in_order(alloc, &shape.items, &groups);

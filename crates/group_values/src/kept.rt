@@ -2,7 +2,7 @@
 
 ghost use Rattle.std.specs.Prelude.{◌≡◌, length, map, slice_index_or, IfOk};
 ghost use Rattle.pg_value.specs.declared.value.Value.TheVariants.{Null};
-ghost use Rattle.group_values.specs.Groups.{cell, line};
+ghost use Rattle.group_values.specs.Groups.{shown_value, line};
 ghost use Rattle.group_values.specs.Steps.{begun, blank, can_rise, first_of, has_room, have_room, joined, risen, with_args, with_one};
 
 use crate::lists::Values;
@@ -91,7 +91,7 @@ impl Kept {
 
     /// The value that an item shows, NULL past the columns or the calls. The error means out of memory.
     fn cell(&self, alloc: Global, item: Shown) -> Result<Value, Memory>
-        ensures { IfOk result (λ v. v ≡ cell self.now item) }
+        ensures { IfOk result (λ v. v ≡ shown_value self.now item) }
     {
         match item {
             Shown::Key(place) => copy_at(alloc, self.keys.items(), place as usize),

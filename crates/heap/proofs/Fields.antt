@@ -16,24 +16,24 @@ use Rattle.pg_value.specs.declared.value.SqlType.TheVariants.{Int2, Int4, Int8, 
 use Rattle.pg_value.specs.declared.value.Value.{Value}
 use Rattle.pg_value.specs.declared.value.Value.TheVariants.{Null, Int, Bool as Flag, Text as String}
 use Rattle.heap.specs.declared.fault.CopyFault.TheVariants.{IsNull, TooLong}
-use Rattle.heap.specs.Loading.{field, is_long, placed}
+use Rattle.heap.specs.Loading.{field, is_long, at_field}
 use Rattle.heap.specs.Stored.{IsColumnValue}
 use Rattle.pg_value.specs.Fields.{null_text}
 
 module _ (rec : ℕ) (col : ColNo) (column : Column) (text : List ℕ) where
   pub field_null : bytes_eq text null_text ≡ true → field rec col column text ≡ cond column.not_null (Err (IsNull rec col)) (Ok Null)
   unfolding field
-  field_null h = ap (λ (b : Bool). cond b (cond column.not_null (Err (IsNull rec col)) (Ok Null)) (cond (is_long column.typed text) (Err (TooLong rec col)) (placed rec col (field_value column.typed text)))) h
+  field_null h = ap (λ (b : Bool). cond b (cond column.not_null (Err (IsNull rec col)) (Ok Null)) (cond (is_long column.typed text) (Err (TooLong rec col)) (at_field rec col (field_value column.typed text)))) h
 
-  pub field_other : bytes_eq text null_text ≡ false → field rec col column text ≡ cond (is_long column.typed text) (Err (TooLong rec col)) (placed rec col (field_value column.typed text))
+  pub field_other : bytes_eq text null_text ≡ false → field rec col column text ≡ cond (is_long column.typed text) (Err (TooLong rec col)) (at_field rec col (field_value column.typed text))
   unfolding field
-  field_other h = ap (λ (b : Bool). cond b (cond column.not_null (Err (IsNull rec col)) (Ok Null)) (cond (is_long column.typed text) (Err (TooLong rec col)) (placed rec col (field_value column.typed text)))) h
+  field_other h = ap (λ (b : Bool). cond b (cond column.not_null (Err (IsNull rec col)) (Ok Null)) (cond (is_long column.typed text) (Err (TooLong rec col)) (at_field rec col (field_value column.typed text)))) h
 
   pub field_long : bytes_eq text null_text ≡ false → is_long column.typed text ≡ true → field rec col column text ≡ Err (TooLong rec col)
-  field_long h long = field_other h ∙ ap (λ (b : Bool). cond b (Err (TooLong rec col)) (placed rec col (field_value column.typed text))) long
+  field_long h long = field_other h ∙ ap (λ (b : Bool). cond b (Err (TooLong rec col)) (at_field rec col (field_value column.typed text))) long
 
-  pub field_read : bytes_eq text null_text ≡ false → is_long column.typed text ≡ false → (r : Result Value FieldFault) → field_value column.typed text ≡ r → field rec col column text ≡ placed rec col r
-  field_read h short r e = field_other h ∙ ap (λ (b : Bool). cond b (Err (TooLong rec col)) (placed rec col (field_value column.typed text))) short ∙ ap (placed rec col) e
+  pub field_read : bytes_eq text null_text ≡ false → is_long column.typed text ≡ false → (r : Result Value FieldFault) → field_value column.typed text ≡ r → field rec col column text ≡ at_field rec col r
+  field_read h short r e = field_other h ∙ ap (λ (b : Bool). cond b (Err (TooLong rec col)) (at_field rec col (field_value column.typed text))) short ∙ ap (at_field rec col) e
 
 -- what a text spells is no NULL, and a text only where it is the text
 IsReadFrom : List ℕ → Value → Type 0

@@ -14,7 +14,7 @@ use Rattle.pg_value.specs.declared.columns.Column.{Column}
 use Rattle.pg_value.specs.declared.value.Value.{Value}
 use Rattle.heap.specs.declared.fault.CopyFault.{CopyFault}
 use Rattle.heap.specs.declared.fault.CopyFault.TheVariants.{Arity, TooMany}
-use Rattle.heap.specs.Loading.{joined, field, values_from, row, rows_from}
+use Rattle.heap.specs.Loading.{first_fault_or_all, field, values_from, row, rows_from}
 use Rattle.heap.specs.Stored.{Values, IsColumnValue}
 
 pub field_there : (fields : List (List ℕ)) (i : ℕ) → field_at fields i ≡ slice_get fields i
@@ -28,12 +28,12 @@ abbrev pub prepended : {A : Type 0} → List A → Result (List A) CopyFault →
 prepended xs (Err e) = Err e
 prepended xs (Ok ys) = Ok (xs ++ ys)
 
-pub prepended-more : {A : Type 0} (xs : List A) (x : A) (rest : Result (List A) CopyFault) → prepended xs (joined (Ok x) rest) ≡ prepended (xs ++ x ∷ []) rest
+pub prepended-more : {A : Type 0} (xs : List A) (x : A) (rest : Result (List A) CopyFault) → prepended xs (first_fault_or_all (Ok x) rest) ≡ prepended (xs ++ x ∷ []) rest
 prepended-more xs x (Err e) = refl
 prepended-more xs x (Ok ys) = ap (λ (l : List _). Ok l) (sym (append_assoc xs (x ∷ []) ys))
 
 pub values-more : (rec i : ℕ) (cs : List Column) (fs : List (List ℕ)) (d : Column) (f : List ℕ) → i < length cs → i < length fs → slice_get fs i ≡ Some f
-    → values_from rec i (drop i cs) (drop i fs) ≡ joined (field rec (record { 0 = i }) (get_or cs i d) f) (values_from rec (i + 1) (drop (i + 1) cs) (drop (i + 1) fs))
+    → values_from rec i (drop i cs) (drop i fs) ≡ first_fault_or_all (field rec (record { 0 = i }) (get_or cs i d) f) (values_from rec (i + 1) (drop (i + 1) cs) (drop (i + 1) fs))
 unfolding values_from
 values-more rec i cs fs d f lc lf ef = ap₂ (values_from rec i) (drop_more cs i d lc) (drop_more fs i f lf ∙ ap (λ (x : List ℕ). x ∷ drop (i + 1) fs) (get_or_from_slice_get fs i f f ef))
 
@@ -82,7 +82,7 @@ module _ (columns : List Column) (room rec : ℕ) (fields : List (List ℕ)) whe
       row_there h ∙ ap (λ (b : Bool). cond b (values_from rec 0 columns fields) (Err (Arity rec))) alike
 
 -- rows of records
-joined_ok : {A : Type 0} (a : Result A CopyFault) (b : Result (List A) CopyFault) (xs : List A) → joined a b ≡ Ok xs → (v : A) × (vs : List A) × (a ≡ Ok v) × (b ≡ Ok vs) × (v ∷ vs ≡ xs)
+joined_ok : {A : Type 0} (a : Result A CopyFault) (b : Result (List A) CopyFault) (xs : List A) → first_fault_or_all a b ≡ Ok xs → (v : A) × (vs : List A) × (a ≡ Ok v) × (b ≡ Ok vs) × (v ∷ vs ≡ xs)
 joined_ok (Ok v) (Ok vs) xs h = (v, vs, refl, refl, cc)
 joined_ok (Ok v) (Err e) xs h = cc
 joined_ok (Err e) b xs h = cc
@@ -91,7 +91,7 @@ pub prepended-none : {A : Type 0} (r : Result (List A) CopyFault) → r ≡ prep
 prepended-none (Ok xs) = refl
 prepended-none (Err e) = refl
 
-prepended-first : {A : Type 0} (v : A) (vs : List A) (r : Result (List A) CopyFault) → joined (Ok v) (prepended vs r) ≡ prepended (v ∷ vs) r
+prepended-first : {A : Type 0} (v : A) (vs : List A) (r : Result (List A) CopyFault) → first_fault_or_all (Ok v) (prepended vs r) ≡ prepended (v ∷ vs) r
 prepended-first v vs (Ok xs) = refl
 prepended-first v vs (Err e) = refl
 
@@ -106,7 +106,7 @@ rows-more columns room k [] tail xs h =
     ap (λ (n : ℕ). rows_from columns room n tail) (omega arith) ∙ prepended-none _ ∙ ap (λ (l : List Values). prepended l (rows_from columns room (k + 0) tail)) none
 rows-more columns room k (r ∷ rs) tail xs h =
     let parts = joined_ok (row columns room k r) (rows_from columns room (k + 1) rs) xs h in
-    ap₂ joined parts.2 (rows-more columns room (k + 1) rs tail parts.1 parts.3)
+    ap₂ first_fault_or_all parts.2 (rows-more columns room (k + 1) rs tail parts.1 parts.3)
     ∙ prepended-first parts.0 parts.1 (rows_from columns room (k + 1 + length rs) tail)
     ∙ ap₂ prepended parts.4 (ap (λ (n : ℕ). rows_from columns room n tail) (omega arith))
 
@@ -115,14 +115,14 @@ module _ (columns : List Column) (room : ℕ) (rs : List (List (List ℕ))) (xs 
   unfolding rows_from
   rows-one v h =
       rows-more columns room 1 rs (fields ∷ []) xs so_far
-      ∙ ap (λ (r : Result Values CopyFault). prepended xs (joined r (Ok []))) (ap (λ (n : ℕ). row columns room n fields) (omega arith) ∙ h)
+      ∙ ap (λ (r : Result Values CopyFault). prepended xs (first_fault_or_all r (Ok []))) (ap (λ (n : ℕ). row columns room n fields) (omega arith) ∙ h)
 
   rows-fault : (e : CopyFault) (tail : List (List (List ℕ))) → row columns room (length rs + 1) fields ≡ Err e → rows_from columns room 1 ((rs ++ fields ∷ []) ++ tail) ≡ Err e
   unfolding rows_from
   rows-fault e tail h =
       ap (rows_from columns room 1) (append_assoc rs (fields ∷ []) tail)
       ∙ rows-more columns room 1 rs (fields ∷ tail) xs so_far
-      ∙ ap (λ (r : Result Values CopyFault). prepended xs (joined r (rows_from columns room (1 + length rs + 1) tail))) (ap (λ (n : ℕ). row columns room n fields) (omega arith) ∙ h)
+      ∙ ap (λ (r : Result Values CopyFault). prepended xs (first_fault_or_all r (rows_from columns room (1 + length rs + 1) tail))) (ap (λ (n : ℕ). row columns room n fields) (omega arith) ∙ h)
 
 -- the first fault of a block is that of the record behind those that were read
 pub rows-refused : (columns : List Column) (room : ℕ) (xs ys : List ℕ) (s : State) (rs : List (List (List ℕ))) (vs : List Values) (fields : List (List ℕ)) (e : CopyFault) → rows_from columns room 1 rs ≡ Ok vs

@@ -32,10 +32,10 @@ abbrev pub records_of : List ℕ → List (List (List ℕ))
 records_of block = records default_config (strip_bom block)
 
 -- a first answer before the rest: the first fault from the left, else all values
-abbrev pub joined : {A : Type 0} → Result A CopyFault → Result (List A) CopyFault → Result (List A) CopyFault
-joined (Err e) rest = Err e
-joined (Ok v) (Err e) = Err e
-joined (Ok v) (Ok vs) = Ok (v ∷ vs)
+abbrev pub first_fault_or_all : {A : Type 0} → Result A CopyFault → Result (List A) CopyFault → Result (List A) CopyFault
+first_fault_or_all (Err e) rest = Err e
+first_fault_or_all (Ok v) (Err e) = Err e
+first_fault_or_all (Ok v) (Ok vs) = Ok (v ∷ vs)
 
 -- a text that is longer than a text may be
 abbrev pub is_long : SqlType → List ℕ → Bool
@@ -43,21 +43,21 @@ is_long TextType text = nat_lt MOST_TEXT_BYTES (length text)
 is_long t text = false
 
 -- the fault of a field's text, at its place
-abbrev pub placed : ℕ → ColNo → Result Value FieldFault → Result Value CopyFault
-placed rec col (Ok v) = Ok v
-placed rec col (Err field_fault.Range) = Err (Range rec col)
-placed rec col (Err field_fault.Invalid) = Err (Invalid rec col)
-placed rec col (Err field_fault.Memory) = Err Memory
+abbrev pub at_field : ℕ → ColNo → Result Value FieldFault → Result Value CopyFault
+at_field rec col (Ok v) = Ok v
+at_field rec col (Err field_fault.Range) = Err (Range rec col)
+at_field rec col (Err field_fault.Invalid) = Err (Invalid rec col)
+at_field rec col (Err field_fault.Memory) = Err Memory
 
 -- the value of a column that a field stands for, or its fault
 unfoldable pub field : ℕ → ColNo → Column → List ℕ → Result Value CopyFault
 field rec col column text =
     cond (bytes_eq text null_text) (cond column.not_null (Err (IsNull rec col)) (Ok Null))
-    (cond (is_long column.typed text) (Err (TooLong rec col)) (placed rec col (field_value column.typed text)))
+    (cond (is_long column.typed text) (Err (TooLong rec col)) (at_field rec col (field_value column.typed text)))
 
 -- the values of as many fields as columns, from column number n on
 unfoldable pub values_from : ℕ → ℕ → List Column → List (List ℕ) → Result Values CopyFault
-values_from rec n (c ∷ cs) (f ∷ fs) = joined (field rec (record { 0 = n }) c f) (values_from rec (n + 1) cs fs)
+values_from rec n (c ∷ cs) (f ∷ fs) = first_fault_or_all (field rec (record { 0 = n }) c f) (values_from rec (n + 1) cs fs)
 values_from rec n _ _ = Ok []
 
 -- the row of a record, where there is room for so many, or its first fault
@@ -68,7 +68,7 @@ row columns room rec fields =
 -- the rows of records, the first of which has this number, or the first fault
 unfoldable pub rows_from : List Column → ℕ → ℕ → List (List (List ℕ)) → Result (List Values) CopyFault
 rows_from columns room rec [] = Ok []
-rows_from columns room rec (r ∷ rs) = joined (row columns room rec r) (rows_from columns room (rec + 1) rs)
+rows_from columns room rec (r ∷ rs) = first_fault_or_all (row columns room rec r) (rows_from columns room (rec + 1) rs)
 
 -- a heap with rows behind its own
 abbrev pub with_rows : Stored → Result (List Values) CopyFault → Result Stored CopyFault

@@ -12,10 +12,10 @@ use Rattle.eq_classes.specs.Listing.{clause_at}
 use Rattle.index_match.specs.Numbered.{Numbered, numbered, has_number, those, local, conditions_of}
 use Rattle.index_match.specs.Conditions.{allowed, is_condition, index_conditions}
 use Rattle.index_match.specs.Bounds.{bounding, index_bounds, index_tests}
-use Rattle.index_match.specs.Slots.{is_local}
 use Rattle.index_match.proofs.BoundLemmas.{any_filter, number_filter}
 use Rattle.index_match.proofs.FoundLemmas.{those_are, chosen_numbers}
 use Rattle.pg_base.proofs.ListLemmas.{any-take as any_take}
+use Rattle.eq_classes.specs.Parts.{is_local}
 
 pub clauses_by_number : (test : Clause → Bool) (n : ℕ) (ks : List Clause) →
     conditions_of (map (λ (p : ℕ × Clause). numbered (p.0, p.1.cond)) (filter (λ (p : ℕ × Clause). test p.1) (enumerate_from n ks))) ≡ map (λ (k : Clause). k.cond) (filter test ks)

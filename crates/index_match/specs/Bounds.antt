@@ -8,7 +8,7 @@ use Rattle.pg_expr.specs.Cond.{Cond, compare, is_null}
 use Rattle.catalog.specs.Contents.{Contents, index_at}
 use Rattle.catalog.specs.Indexes.{Index}
 use Rattle.eq_classes.specs.Clauses.{Set, ClassTable}
-use Rattle.index_match.specs.Numbered.{Numbered, is_among, others, has_number}
+use Rattle.index_match.specs.Numbered.{Numbered, is_one_of_chosen, others, has_number}
 use Rattle.index_match.specs.Conditions.{has_key_form, index_conditions}
 use Rattle.pg_base.specs.Sets.{has}
 use Rattle.pg_base.specs.declared.numbers.RelNo.{RelNo}
@@ -37,7 +37,7 @@ bounding m r (k ∷ ks) cs =
 
 -- the conditions of a list that are bounds, in the list's order
 abbrev pub bounds_among : Index → ℕ → List Numbered → List Numbered
-bounds_among d r cs = filter (is_among (bounding d.method r d.keys cs)) cs
+bounds_among d r cs = filter (is_one_of_chosen (bounding d.method r d.keys cs)) cs
 
 -- the bounds of an index, and its other conditions, which are tests of its entries
 abbrev pub index_bounds : Contents → ClassTable → IndexNo → ℕ → Set → List Numbered

@@ -27,12 +27,12 @@ abbrev pub has_number : List Numbered → ℕ → Bool
 has_number cs n = list_any (λ (c : Numbered). nat_eq n c.number) cs
 
 -- a condition is one of the chosen, by its number alone
-abbrev pub is_among : List Numbered → Numbered → Bool
-is_among chosen c = has_number chosen c.number
+abbrev pub is_one_of_chosen : List Numbered → Numbered → Bool
+is_one_of_chosen chosen c = has_number chosen c.number
 
 -- the conditions of a list that are not among the chosen
 abbrev pub others : List Numbered → List Numbered → List Numbered
-others chosen cs = filter (λ c. not (is_among chosen c)) cs
+others chosen cs = filter (λ c. not (is_one_of_chosen chosen c)) cs
 
 -- numbered conditions without their numbers
 abbrev pub conditions_of : List Numbered → List Cond

@@ -10,7 +10,7 @@ use Rattle.catalog.specs.opfamily_classes_Method.{Method}
 use Rattle.catalog.specs.Indexes.{Index}
 use Rattle.eq_classes.specs.Clauses.{Clause, Set, ClassTable}
 use Rattle.eq_classes.specs.Listing.{clause_at, selects}
-use Rattle.eq_classes.specs.Parts.{is_base, is_param}
+use Rattle.eq_classes.specs.Parts.{is_local}
 use Rattle.index_match.specs.declared.slots.Conditions.{Conditions}
 use Rattle.index_match.specs.declared.slots.Conditions.TheVariants.{Clauses, Parts}
 use Rattle.index_match.specs.declared.slots.Chosen.{Chosen}
@@ -78,10 +78,6 @@ is_key_slot m r k list j = nat_lt j (length (slots_of list)) && is_on_key m r.0 
 -- the condition at a place is on a key column and leaves it one value
 abbrev pub is_fixing_on : Method → ℕ → IndexKey → Option Cond → Bool
 is_fixing_on m r k = passes (λ e. has_key_form m r k e && is_fixing e)
-
--- a clause over a relation and its parameterisation is a condition of the index
-abbrev pub is_local : ℕ → Set → Clause → Bool
-is_local r p k = is_base r k || is_param r p k
 
 -- a set has the numbers of the clauses over a relation and its parameterisation, and no others
 abbrev pub AreLocal : ClassTable → ℕ → Set → (ℕ → Bool) → Type 0

@@ -6,10 +6,10 @@ use Rattle.advisor.specs.Choices.{IsPart}
 use Rattle.catalog.specs.Contents.{Contents, NamedIndex, no_index}
 use Rattle.sql_query.specs.Queries.{Query}
 use Rattle.plan_tree.specs.Costs.{price}
-use Rattle.plan_tree.specs.Least.{IsBestPlan}
+use Rattle.plan_tree.specs.Least.{IsBestPlan, HasNoPlan}
 use Rattle.plan_tree.specs.Plans.{Plan}
 use Rattle.plan_laws.specs.Fewer.{HasRoom, KeepsRead}
-use Rattle.plan_laws.specs.Moved.{HasNoPlan, HasPrice, added_from, over}
+use Rattle.plan_laws.specs.Moved.{HasPrice, added_from, over}
 use Rattle.plan_laws.proofs.KeptPlanLemmas.{none-left, price-left}
 use Rattle.index_prices.specs.Candidates.{with_added}
 use Rattle.index_prices.specs.Quotes.{HasAllRead}

@@ -5,10 +5,10 @@ use Rattle.advisor.specs.Choices.{IsPart}
 use Rattle.catalog.specs.Contents.{Contents, NamedIndex}
 use Rattle.sql_query.specs.Queries.{Query}
 use Rattle.plan_tree.specs.Costs.{price}
-use Rattle.plan_tree.specs.Least.{IsBestPlan}
+use Rattle.plan_tree.specs.Least.{IsBestPlan, HasNoPlan}
 use Rattle.plan_tree.specs.Plans.{Plan}
 use Rattle.plan_laws.specs.Fewer.{HasRoom}
-use Rattle.plan_laws.specs.Moved.{HasNoPlan, HasPrice}
+use Rattle.plan_laws.specs.Moved.{HasPrice}
 use Rattle.index_prices.specs.Candidates.{with_added}
 use Rattle.index_prices.specs.Prices.{IsLeastPrice}
 use Rattle.index_prices.specs.Quotes.{HasAllRead, IsQuoteOver}

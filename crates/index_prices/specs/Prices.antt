@@ -4,8 +4,9 @@ use Rattle.pg_base.specs.Sets.{has}
 use Rattle.catalog.specs.Contents.{Contents, NamedIndex}
 use Rattle.sql_query.specs.Queries.{Query}
 use Rattle.advisor.specs.Choices.{Prices}
-use Rattle.plan_laws.specs.Moved.{HasNoPlan, HasPrice, is_read}
+use Rattle.plan_laws.specs.Moved.{HasPrice, is_read}
 use Rattle.index_prices.specs.Candidates.{with_added}
+use Rattle.plan_tree.specs.Least.{HasNoPlan}
 
 -- the least price of a query over a catalogue, or that none of its finished plans is admissible
 abbrev pub IsLeastPrice : Contents → Query → Option ℕ → Type 0

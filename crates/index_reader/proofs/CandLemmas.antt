@@ -21,14 +21,14 @@ use Rattle.query_reader.proofs.ReadingLemmas.{some-token}
 use Rattle.query_reader.proofs.PlaceLemmas.{front-of, one-end, slice-is}
 use Rattle.index_reader.specs.Candidates.{cand_of, HaveCand, IsCandAt}
 use Rattle.index_reader.specs.declared.index.ReadIndex.{ReadIndex}
-use Rattle.index_reader.specs.Meaning.{IndexMeant, meaning, meaning_of_cand}
+use Rattle.index_reader.specs.Meaning.{IndexMeant, meaning_of_index, meaning_of_cand}
 use Rattle.index_reader.specs.Reads.{index_meant}
 
 -- its words, with its end, and its first word
 pub record Behind (y : CreateIndex) (text : List ℕ) (tokens : List Token) : Type 0 where
   pub ending : Ending
   pub words : words_of_cand (cand_of y) ++ words_of_ending ending ≡ drop 2 (words_of_index y)
-  pub means : (cat : Contents) (start : Token) (later : List Token) → tokens ≡ start ∷ later → meaning_of_cand cat start (cand_of y) ≡ meaning cat y
+  pub means : (cat : Contents) (start : Token) (later : List Token) → tokens ≡ start ∷ later → meaning_of_cand cat start (cand_of y) ≡ meaning_of_index cat y
 
 pub behind-two : (y : CreateIndex) (text : List ℕ) (tokens : List Token) → words_of_index y ≡ terminals text tokens → Behind y text tokens
 behind-two (index_on k i n o t u p x xs m c w e) text tokens is = record {
@@ -53,7 +53,7 @@ cand-behind y text tokens end s at =
 
 -- what is read of it is what CREATE INDEX means
 pub index-told : (cat : Contents) (text : List ℕ) (tokens : List Token) (y : CreateIndex) (end : ℕ) (r : Result ReadIndex Refusal) → IsSpelled (create_index y) text tokens → 0 < length tokens → end ≡ length tokens - 1 →
-    ((x : Cand) (start : Token) (later : List Token) → tokens ≡ start ∷ later → IsCandAt text tokens 2 end x → Reads index_meant (meaning_of_cand cat start x) [] r []) → Reads index_meant (meaning cat y) [] r []
+    ((x : Cand) (start : Token) (later : List Token) → tokens ≡ start ∷ later → IsCandAt text tokens 2 end x → Reads index_meant (meaning_of_cand cat start x) [] r []) → Reads index_meant (meaning_of_index cat y) [] r []
 index-told cat text tokens y end r s some at told =
     let (start, later, whole) = some-token tokens some in
     subst (λ (m : Result IndexMeant Fault). Reads index_meant m [] r []) ((behind-two y text tokens s.words).means cat start later whole) (told (cand_of y) start later whole (cand-behind y text tokens end s at))

@@ -12,7 +12,7 @@ use Rattle.sql_lex.specs.declared.tokens.Token.{Token}
 use Rattle.sql_grammar.specs.declared.class.Symbol.TheVariants.{Close, Open}
 use Rattle.sql_grammar.specs.declared.class.Word.TheVariants.{On}
 use Rattle.sql_grammar.specs.Terminals.{Terminal, Ident, t_key, t_mark, t_name}
-use Rattle.sql_grammar.specs.Syntax.{Key, Mark, Where, no_where, where_expr, semicolon, text_end, IndexKey as KeyTree, Using, Include, Cand, cand_on, CreateIndex, index_on, Statement, empty, create_table, create_index, query, copy, sizes, column_statistics, analyze, no_explain, explain, explain_table, ordered_select, select_from, advise, advise_of, check, use_plan, unexplained, explained, grouped}
+use Rattle.sql_grammar.specs.Syntax.{Key, Mark, Where, no_where, where_expr, semicolon, text_end, KeyTree, Using, Include, Cand, cand_on, CreateIndex, index_on, Statement, empty, create_table, create_index, query, copy, sizes, column_statistics, analyze, no_explain, explain, explain_table, ordered_select, select_from, advise, advise_of, check, use_plan, unexplained, explained, grouped}
 use Rattle.sql_grammar.specs.Words.{words_of, words_of_where, words_of_using, words_of_include, words_of_key, words_of_keys, words_of_cand}
 use Rattle.sql_grammar.specs.Faults.{fault_at, terminals, IsWhole}
 use Rattle.sql_grammar.specs.Spelled.{IsSpelled}
@@ -29,8 +29,8 @@ use Rattle.index_reader.specs.declared.index.ReadIndex.{ReadIndex}
 use Rattle.index_reader.specs.declared.keys.KeyRead.{KeyRead}
 use Rattle.index_reader.specs.declared.names.NamedColumn.{NamedColumn}
 use Rattle.index_reader.specs.declared.methods.MethodRead.{MethodRead}
-use Rattle.index_reader.specs.Keys.{method_bound, key_bound, keys_of, name_bound, include_names}
-use Rattle.index_reader.specs.Meaning.{IndexMeant, condition_bound, name_tokens, limited_names, has_many_atoms, index_reading, within_limits, meaning, meaning_of_cand}
+use Rattle.index_reader.specs.Keys.{method_bound, key_bound, all_key_trees, name_bound, include_names}
+use Rattle.index_reader.specs.Meaning.{IndexMeant, condition_bound, name_tokens, limited_names, has_many_atoms, index_reading, within_limits, meaning_of_index, meaning_of_cand}
 use Rattle.index_reader.specs.Reads.{ends_include, words_of_keys_left, index_meant}
 use Rattle.index_reader.specs.Statements.{IsCandRefusal, IsIndexMeaning, IsCreateRefusal}
 use Rattle.ddl_reader.specs.Statements.{begins_index}
@@ -105,26 +105,26 @@ module _ (cat : Contents) (start : Token) (n : Ident) (o : Key) (t : Ident) (u :
     method-wrong f wrong = step (table_of_name cat t) _ table found ∙ stop (method_bound u) _ f wrong
 
     module _ (method : MethodRead) (using : method_bound u ≡ Ok method) where
-      pub keys-wrong : (f : Fault) → bound_each (key_bound cat table method.method) (keys_of x xs) ≡ Err f → whole ≡ Err f
-      keys-wrong f wrong = step (table_of_name cat t) _ table found ∙ (step (method_bound u) _ method using ∙ stop (bound_each (key_bound cat table method.method) (keys_of x xs)) _ f wrong)
+      pub keys-wrong : (f : Fault) → bound_each (key_bound cat table method.method) (all_key_trees x xs) ≡ Err f → whole ≡ Err f
+      keys-wrong f wrong = step (table_of_name cat t) _ table found ∙ (step (method_bound u) _ method using ∙ stop (bound_each (key_bound cat table method.method) (all_key_trees x xs)) _ f wrong)
 
-      module _ (keys : List KeyRead) (keyed : bound_each (key_bound cat table method.method) (keys_of x xs) ≡ Ok keys) where
+      module _ (keys : List KeyRead) (keyed : bound_each (key_bound cat table method.method) (all_key_trees x xs) ≡ Ok keys) where
         pub names-wrong : (f : Fault) → bound_each (name_bound cat table) (include_names c) ≡ Err f → whole ≡ Err f
         names-wrong f wrong =
             step (table_of_name cat t) _ table found ∙ (step (method_bound u) _ method using ∙
-            (step (bound_each (key_bound cat table method.method) (keys_of x xs)) _ keys keyed ∙ stop (bound_each (name_bound cat table) (include_names c)) _ f wrong))
+            (step (bound_each (key_bound cat table method.method) (all_key_trees x xs)) _ keys keyed ∙ stop (bound_each (name_bound cat table) (include_names c)) _ f wrong))
 
         module _ (names : List NamedColumn) (included : bound_each (name_bound cat table) (include_names c) ≡ Ok names) where
           pub condition-wrong : (f : Fault) → condition_bound (sight cat table (spelled t).bytes) w ≡ Err f → whole ≡ Err f
           condition-wrong f wrong =
               step (table_of_name cat t) _ table found ∙ (step (method_bound u) _ method using ∙
-              (step (bound_each (key_bound cat table method.method) (keys_of x xs)) _ keys keyed ∙
+              (step (bound_each (key_bound cat table method.method) (all_key_trees x xs)) _ keys keyed ∙
               (step (bound_each (name_bound cat table) (include_names c)) _ names included ∙ stop (condition_bound (sight cat table (spelled t).bytes) w) _ f wrong)))
 
           pub all-bound : (q : Option Cond) → condition_bound (sight cat table (spelled t).bytes) w ≡ Ok q → whole ≡ within_limits start n table method keys names q
           all-bound q condition =
               step (table_of_name cat t) _ table found ∙ (step (method_bound u) _ method using ∙
-              (step (bound_each (key_bound cat table method.method) (keys_of x xs)) _ keys keyed ∙
+              (step (bound_each (key_bound cat table method.method) (all_key_trees x xs)) _ keys keyed ∙
               (step (bound_each (name_bound cat table) (include_names c)) _ names included ∙ step (condition_bound (sight cat table (spelled t).bytes) w) _ q condition)))
 
 -- any candidate by its words
@@ -169,8 +169,8 @@ indexing text tokens given opens =
     record { tree = y; spelled = subst (λ z. IsSpelled z text tokens) is (record { words = words; limits = given.within; levels = low }) }
 
 -- an index that is read is meant
-pub meant-as : (cat : Contents) (text : List ℕ) (tokens : List Token) (r : Result ReadIndex Refusal) (given : Indexing text tokens) → Reads index_meant (meaning cat given.tree) [] r [] → IfOk r (λ v. IsIndexMeaning cat text tokens (Ok (index_meant v)))
-meant-as cat text tokens (Ok v) given told = record { statement = given.tree; spelled = given.spelled; means = (was-read ReadIndex IndexMeant index_meant (meaning cat given.tree) v [] [] told).meant }
+pub meant-as : (cat : Contents) (text : List ℕ) (tokens : List Token) (r : Result ReadIndex Refusal) (given : Indexing text tokens) → Reads index_meant (meaning_of_index cat given.tree) [] r [] → IfOk r (λ v. IsIndexMeaning cat text tokens (Ok (index_meant v)))
+meant-as cat text tokens (Ok v) given told = record { statement = given.tree; spelled = given.spelled; means = (was-read ReadIndex IndexMeant index_meant (meaning_of_index cat given.tree) v [] [] told).meant }
 meant-as cat text tokens (Err e) given told = tt
 
 pub fault-by : (m : Result IndexMeant Fault) (f : Fault) → Reads {T = ReadIndex} {A = IndexMeant} index_meant m [] (Err (refusal.Fault f)) [] → m ≡ Err f
@@ -178,10 +178,10 @@ fault-by (Ok a) f told = absurd told
 fault-by (Err g) f told = ap Err (sym told)
 
 -- an index that is refused after its syntax
-pub refused-as : (cat : Contents) (text : List ℕ) (tokens : List Token) (r : Result ReadIndex Refusal) (given : Indexing text tokens) → Reads index_meant (meaning cat given.tree) [] r [] → IfErr r (IsCreateRefusal cat text tokens)
+pub refused-as : (cat : Contents) (text : List ℕ) (tokens : List Token) (r : Result ReadIndex Refusal) (given : Indexing text tokens) → Reads index_meant (meaning_of_index cat given.tree) [] r [] → IfErr r (IsCreateRefusal cat text tokens)
 refused-as cat text tokens (Ok v) given told = tt
 refused-as cat text tokens (Err refusal.Memory) given told = (given.tree, given.spelled)
-refused-as cat text tokens (Err (refusal.Fault f)) given told = inr (record { statement = given.tree; spelled = given.spelled; means = fault-by (meaning cat given.tree) f told })
+refused-as cat text tokens (Err (refusal.Fault f)) given told = inr (record { statement = given.tree; spelled = given.spelled; means = fault-by (meaning_of_index cat given.tree) f told })
 
 -- a candidate that is read, or refused
 pub cand-read : (m : Result IndexMeant Fault) (r : Result ReadIndex Refusal) → Reads index_meant m [] r [] → IfOk r (λ v. m ≡ Ok (index_meant v))

@@ -11,7 +11,7 @@ use Rattle.opfamily.specs.declared.classes.Method.{Method}
 use Rattle.opfamily.specs.declared.classes.OpClass.{OpClass}
 use Rattle.sql_lex.specs.declared.tokens.Token.{Token}
 use Rattle.sql_grammar.specs.Terminals.{Terminal, Ident, token_of, t_mark}
-use Rattle.sql_grammar.specs.Syntax.{Direction, no_direction, ascending, descending, NullsEnd, no_nulls_end, nulls_first, nulls_last, OpClass as ClassTree, index_key}
+use Rattle.sql_grammar.specs.Syntax.{Direction, no_direction, ascending, descending, NullsEnd, no_nulls_end, nulls_first, nulls_last, ClassTree, index_key}
 use Rattle.sql_grammar.specs.Words.{words_of_direction, words_of_nulls_end}
 use Rattle.expr_reader.specs.declared.cursor.Spelled.{Spelled}
 use Rattle.expr_reader.specs.Reading.{spelled}

@@ -5,7 +5,7 @@ use Rattle.pg_base.specs.declared.numbers.TableNo.{TableNo}
 use Rattle.opfamily.specs.declared.classes.Method.{Method}
 use Rattle.sql_grammar.specs.declared.class.Symbol.TheVariants.{Close}
 use Rattle.sql_grammar.specs.Terminals.{Terminal, Ident, t_mark, t_name}
-use Rattle.sql_grammar.specs.Syntax.{Mark, Direction, NullsEnd, OpClass as ClassTree, IndexKey as KeyTree, index_key}
+use Rattle.sql_grammar.specs.Syntax.{Mark, Direction, NullsEnd, ClassTree, KeyTree, index_key}
 use Rattle.sql_grammar.specs.Words.{words_of_key, words_of_keys, words_of_names}
 use Rattle.catalog.specs.Contents.{Contents}
 use Rattle.expr_reader.specs.Reads.{Reads}

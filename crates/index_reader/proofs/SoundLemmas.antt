@@ -27,7 +27,7 @@ use Rattle.sql_lex.specs.declared.tokens.Token.{Token}
 use Rattle.sql_lex.specs.Words.{AreWords}
 use Rattle.sql_grammar.specs.declared.class.Symbol.TheVariants.{Close}
 use Rattle.sql_grammar.specs.Terminals.{Terminal, Ident, token_of, t_mark}
-use Rattle.sql_grammar.specs.Syntax.{Mark, Where, no_where, where_expr, OpClass as ClassTree, no_class, op_class, IndexKey as KeyTree, index_key, Using, no_using, using_method, Include, no_include, include_columns, Cand, cand_on}
+use Rattle.sql_grammar.specs.Syntax.{Mark, Where, no_where, where_expr, ClassTree, no_class, op_class, KeyTree, index_key, Using, no_using, using_method, Include, no_include, include_columns, Cand, cand_on}
 use Rattle.sql_grammar.specs.Words.{words_of_where, words_of_key, words_of_keys, words_of_using, words_of_names, words_of_include, words_of_cand}
 use Rattle.sql_grammar.specs.Faults.{bytes_of}
 use Rattle.sql_grammar.proofs.ExprTrees.{tokens-are}
@@ -50,7 +50,7 @@ use Rattle.index_reader.specs.declared.names.NamedColumn.{NamedColumn}
 use Rattle.index_reader.specs.declared.methods.MethodRead.{MethodRead}
 use Rattle.index_reader.specs.Visible.{Sight, visible_in, sight_type}
 use Rattle.expr_reader.specs.Sorts.{is_descending, has_nulls_first}
-use Rattle.index_reader.specs.Keys.{method_of_name, method_bound, class_has_method, class_known, given, class_bound, key_bound, keys_of, name_bound, include_names}
+use Rattle.index_reader.specs.Keys.{method_of_name, method_bound, class_has_method, class_known, given, class_bound, key_bound, all_key_trees, name_bound, include_names}
 use Rattle.index_reader.specs.Meaning.{IndexMeant, condition_bound, name_tokens, limited_names, has_many_atoms, index_reading, meaning_of_cand}
 use Rattle.index_reader.specs.Reads.{index_meant}
 use Rattle.index_reader.proofs.VisibleLemmas.{all-map, is_first_column, visible-columns}
@@ -126,7 +126,7 @@ module _ (most : ℕ) where
       let (low, last) = further-within xs rest more in
       (All-cons (λ u. u.start ≤ most) (key_token x) (map key_token (further_parts (λ k. k) xs)) here low, last)
 
-  keys-within : (x : KeyTree) (xs : List (Mark × KeyTree)) (rest : List Terminal) → AreWithin most (words_of_key x ++ (words_of_keys xs ++ rest)) → Low (map key_token (keys_of x xs)) × AreWithin most rest
+  keys-within : (x : KeyTree) (xs : List (Mark × KeyTree)) (rest : List Terminal) → AreWithin most (words_of_key x ++ (words_of_keys xs ++ rest)) → Low (map key_token (all_key_trees x xs)) × AreWithin most rest
   keys-within x xs rest h =
       let (here, more) = key-within x (words_of_keys xs ++ rest) h in
       let (low, last) = further-within xs rest more in
@@ -199,14 +199,14 @@ module _ (cat : Contents) (lawful : IsLawful cat) (t : TableNo) (there : IsTable
       })
 
   module _ (text : List ℕ) (n : Ident) (m : MethodRead) (x : KeyTree) (xs : List (Mark × KeyTree)) (c : Include) (keys : List KeyRead) (names : List NamedColumn) (p : Option Cond)
-      (are-keys : bound_each (key_bound cat t m.method) (keys_of x xs) ≡ Ok keys) (are-names : bound_each (name_bound cat t) (include_names c) ≡ Ok names) where
-    places-low : All (λ u. u.start ≤ length text) (map key_token (keys_of x xs)) → All (λ u. u.start ≤ length text) (map token_of (include_names c)) → All (λ u. u.start ≤ length text) (name_tokens keys names)
+      (are-keys : bound_each (key_bound cat t m.method) (all_key_trees x xs) ≡ Ok keys) (are-names : bound_each (name_bound cat t) (include_names c) ≡ Ok names) where
+    places-low : All (λ u. u.start ≤ length text) (map key_token (all_key_trees x xs)) → All (λ u. u.start ≤ length text) (map token_of (include_names c)) → All (λ u. u.start ≤ length text) (name_tokens keys names)
     places-low low more =
-        let keyed = each-same (key_bound cat t m.method) key_token (λ k. k.token) (key-placed m.method) (keys_of x xs) keys are-keys in
+        let keyed = each-same (key_bound cat t m.method) key_token (λ k. k.token) (key-placed m.method) (all_key_trees x xs) keys are-keys in
         let named = each-same (name_bound cat t) token_of (λ k. k.token) (λ i b is. (name-done i b is).1) (include_names c) names are-names in
         All-append (λ u. u.start ≤ length text) (map (λ k. k.token) keys) (map (λ k. k.token) names) (subst (All (λ u. u.start ≤ length text)) keyed low) (subst (All (λ u. u.start ≤ length text)) named more)
 
-    pub index-sound : IsName (bytes_of n) → (token_of n).start ≤ length text → m.at ≤ length text → All (λ u. u.start ≤ length text) (map key_token (keys_of x xs)) → All (λ u. u.start ≤ length text) (map token_of (include_names c)) →
+    pub index-sound : IsName (bytes_of n) → (token_of n).start ≤ length text → m.at ≤ length text → All (λ u. u.start ≤ length text) (map key_token (all_key_trees x xs)) → All (λ u. u.start ≤ length text) (map token_of (include_names c)) →
         drop MOST_COLUMNS (name_tokens keys names) ≡ [] → IsPredicateOf columns p → IsSound cat text (index_reading n t m keys names p)
     index-sound name start method low more few predicate =
         let tokens = name_tokens keys names in
@@ -227,7 +227,7 @@ module _ (cat : Contents) (lawful : IsLawful cat) (t : TableNo) (there : IsTable
             columns = record {
               some = omega (arith, bare-keys, first-bound (key_bound cat t m.method x) (bound_each (key_bound cat t m.method) (further_parts (λ k. k) xs)) keys are-keys);
               few = omega (arith, none, dropped, count, key-count, name-count, bare-keys, bare-names);
-              keys = all-map (IsKeyOf columns m.method) (λ (k : KeyRead). k.key) keys (each-holds (key_bound cat t m.method) (λ k. IsKeyOf columns m.method k.key) (key-fits m.method) (keys_of x xs) keys are-keys);
+              keys = all-map (IsKeyOf columns m.method) (λ (k : KeyRead). k.key) keys (each-holds (key_bound cat t m.method) (λ k. IsKeyOf columns m.method k.key) (key-fits m.method) (all_key_trees x xs) keys are-keys);
               include = all-map (λ (c : ColNo). c.0 < length columns) (λ (k : NamedColumn). k.col) names
                   (each-holds (name_bound cat t) (λ k. k.col.0 < length columns) (λ i b is. (name-done i b is).0) (include_names c) names are-names);
               predicate = predicate;
@@ -244,7 +244,7 @@ module _ (cat : Contents) (text : List ℕ) (lawful : IsLawful cat) where
       let table = next-done (table_of_name cat t) _ r is in
       let there = known-table cat text (bytes_of t) table.value _ refl (known-some _ (token_of t) (table_named cat (bytes_of t)) table.value table.first) in
       let method = next-done (method_bound u) _ r table.rest in
-      let keys = next-done (bound_each (key_bound cat table.value method.value.method) (keys_of x xs)) _ r method.rest in
+      let keys = next-done (bound_each (key_bound cat table.value method.value.method) (all_key_trees x xs)) _ r method.rest in
       let names = next-done (bound_each (name_bound cat table.value) (include_names c)) _ r keys.rest in
       let predicate = next-done (condition_bound (record { contents = cat; table = table.value; alias = bytes_of t }) w) _ r names.rest in
       let (few, passed) = limited-ok (drop MOST_COLUMNS (name_tokens keys.value names.value)) _ r predicate.rest in

@@ -11,7 +11,7 @@ use Rattle.sql_lex.specs.declared.tokens.Token.{Token}
 use Rattle.sql_grammar.specs.Syntax.{Cand}
 use Rattle.sql_grammar.specs.Faults.{fault_at}
 use Rattle.catalog.specs.Contents.{Contents, NamedIndex, all_names, indexes_of}
-use Rattle.catalog.specs.Indexes.{AreDifferent, IsFirstTwice, columns_of, has_form}
+use Rattle.catalog.specs.Indexes.{AreDifferentColumns, IsFirstTwice, columns_of, has_form}
 use Rattle.catalog.specs.Tables.{IsUnused}
 use Rattle.catalog.specs.Candidates.{with_candidates}
 use Rattle.index_reader.specs.Meaning.{IndexMeant, meaning_of_cand}
@@ -27,7 +27,7 @@ StandsBefore columns place = Contains (take place columns) (slice_index_or colum
 -- stands twice, and the method has its form
 pub record IsAllowed (c : Contents) (read : IndexMeant) : Type 0 where
   pub free : IsUnused c read.name
-  pub distinct : AreDifferent (columns_of read.index)
+  pub distinct : AreDifferentColumns (columns_of read.index)
   pub form : has_form read.index ≡ true
 
 -- why it may not be made: its name is taken, at that name; else a column stands twice, at the first such column's name; else
@@ -36,7 +36,7 @@ pub data IsNotAllowed (c : Contents) (tokens : List Token) (read : IndexMeant) (
   taken : Contains (all_names c) read.name → f ≡ word_fault S5 tokens (slice_index_or read.at 0 0) → IsNotAllowed c tokens read f
   repeated : (place : ℕ) → IsUnused c read.name → IsFirstTwice (columns_of read.index) place →
       f ≡ word_fault S6 tokens (slice_index_or read.at (place + 1) 0) → IsNotAllowed c tokens read f
-  formless : IsUnused c read.name → AreDifferent (columns_of read.index) → has_form read.index ≡ false →
+  formless : IsUnused c read.name → AreDifferentColumns (columns_of read.index) → has_form read.index ≡ false →
       f ≡ word_fault S17 tokens read.method → IsNotAllowed c tokens read f
 
 -- the candidate, or why it may not be made

@@ -14,7 +14,7 @@ use Rattle.opfamily.specs.Answers.{accepted, class_of_name, class_place, classes
 use Rattle.sql_lex.specs.declared.tokens.Token.{Token}
 use Rattle.sql_grammar.specs.Terminals.{Ident, token_of}
 use Rattle.sql_grammar.specs.Faults.{bytes_of, fault_at}
-use Rattle.sql_grammar.specs.Syntax.{Mark, OpClass as ClassTree, no_class, op_class, IndexKey as KeyTree, index_key, Using, no_using, using_method, Include, no_include, include_columns}
+use Rattle.sql_grammar.specs.Syntax.{Mark, ClassTree, no_class, op_class, KeyTree, index_key, Using, no_using, using_method, Include, no_include, include_columns}
 use Rattle.catalog.specs.Contents.{Contents, table_at}
 use Rattle.catalog.specs.Indexes.{type_at}
 use Rattle.expr_reader.specs.Conditions.{next}
@@ -68,8 +68,8 @@ key_bound cat t m (index_key n c d z) =
     })))
 
 -- all key columns
-abbrev pub keys_of : KeyTree → List (Mark × KeyTree) → List KeyTree
-keys_of x xs = x ∷ further_parts (λ k. k) xs
+abbrev pub all_key_trees : KeyTree → List (Mark × KeyTree) → List KeyTree
+all_key_trees x xs = x ∷ further_parts (λ k. k) xs
 
 -- an INCLUDE column with its name's token
 abbrev pub name_bound : Contents → TableNo → Ident → Result NamedColumn Fault

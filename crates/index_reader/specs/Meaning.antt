@@ -21,7 +21,7 @@ use Rattle.ddl_reader.specs.Statistics.{table_of_name}
 use Rattle.index_reader.specs.declared.keys.KeyRead.{KeyRead}
 use Rattle.index_reader.specs.declared.names.NamedColumn.{NamedColumn}
 use Rattle.index_reader.specs.declared.methods.MethodRead.{MethodRead}
-use Rattle.index_reader.specs.Keys.{method_bound, key_bound, keys_of, name_bound, include_names}
+use Rattle.index_reader.specs.Keys.{method_bound, key_bound, all_key_trees, name_bound, include_names}
 use Rattle.index_reader.specs.Visible.{Sight, visible_in, sight_type}
 
 -- a new index by its name, with the offsets of the words at which the catalogue's refusals stand
@@ -74,11 +74,11 @@ abbrev pub meaning_of_cand : Contents → Token → Cand → Result IndexMeant F
 meaning_of_cand cat start (cand_on n _ of u _ x xs _ c w) =
     next (table_of_name cat of) (λ t.
     next (method_bound u) (λ m.
-    next (bound_each (key_bound cat t m.method) (keys_of x xs)) (λ keys.
+    next (bound_each (key_bound cat t m.method) (all_key_trees x xs)) (λ keys.
     next (bound_each (name_bound cat t) (include_names c)) (λ names.
     next (condition_bound (record { contents = cat; table = t; alias = bytes_of of }) w) (λ predicate.
     within_limits start n t m keys names predicate)))))
 
 -- what CREATE INDEX means: what stands behind its first two words, in a statement that begins at its first one
-abbrev pub meaning : Contents → CreateIndex → Result IndexMeant Fault
-meaning cat (index_on start _ n o of u p x xs m c w _) = meaning_of_cand cat start (cand_on n o of u p x xs m c w)
+abbrev pub meaning_of_index : Contents → CreateIndex → Result IndexMeant Fault
+meaning_of_index cat (index_on start _ n o of u p x xs m c w _) = meaning_of_cand cat start (cand_on n o of u p x xs m c w)

@@ -15,7 +15,7 @@ use Rattle.sql_grammar.specs.declared.class.Free.TheVariants.{Include as Include
 use Rattle.sql_grammar.specs.declared.class.Word.TheVariants.{Asc, Desc, Using as UsingKey}
 use Rattle.sql_grammar.specs.declared.class.Symbol.TheVariants.{Close}
 use Rattle.sql_grammar.specs.Terminals.{Terminal, Ident, free, t_key, t_mark, t_name, class_of}
-use Rattle.sql_grammar.specs.Syntax.{Key, Mark, Direction, NullsEnd, OpClass as ClassTree, IndexKey as KeyTree, index_key, Using, Include, Where, cand_on}
+use Rattle.sql_grammar.specs.Syntax.{Key, Mark, Direction, NullsEnd, ClassTree, KeyTree, index_key, Using, Include, Where, cand_on}
 use Rattle.sql_grammar.specs.Words.{words_of_cand, words_of_class, words_of_key, words_of_keys, words_of_names}
 use Rattle.catalog.specs.Contents.{Contents}
 use Rattle.catalog.specs.Entries.{index_of}

@@ -8,13 +8,13 @@ use Rattle.sql_grammar.specs.Syntax.{CreateIndex, create_index}
 use Rattle.sql_grammar.specs.Faults.{IsStatement, IsFirstFault}
 use Rattle.sql_grammar.specs.Spelled.{IsSpelled}
 use Rattle.catalog.specs.Contents.{Contents}
-use Rattle.index_reader.specs.Meaning.{IndexMeant, meaning}
+use Rattle.index_reader.specs.Meaning.{IndexMeant, meaning_of_index}
 
 -- the tokens spell a CREATE INDEX that means this
 pub record IsIndexMeaning (cat : Contents) (text : List ℕ) (tokens : List Token) (r : Result IndexMeant Fault) : Type 0 where
   pub statement : CreateIndex
   pub spelled : IsSpelled (create_index statement) text tokens
-  pub means : meaning cat statement ≡ r
+  pub means : meaning_of_index cat statement ≡ r
 
 -- the tokens are a CREATE INDEX
 abbrev pub AreIndex : List ℕ → List Token → Type 0

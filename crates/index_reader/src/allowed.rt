@@ -6,7 +6,7 @@ ghost use Rattle.std.specs.Str.{bytes_eq};
 ghost use Rattle.pg_base.specs.declared.limits.TheConstants.{MOST_COLUMNS};
 ghost use Rattle.catalog.specs.Contents.{all_names};
 ghost use Rattle.catalog.specs.Entries.{index_of};
-ghost use Rattle.catalog.specs.Indexes.{AreDifferent, IsFirstTwice, columns_of, has_form, is_plain};
+ghost use Rattle.catalog.specs.Indexes.{AreDifferentColumns, IsFirstTwice, columns_of, has_form, is_plain};
 ghost use Rattle.catalog.specs.Candidates.{with_candidates};
 ghost use Rattle.index_reader.specs.Reads.{index_meant};
 ghost use Rattle.index_reader.specs.AdviseCandidates.{IsAllowed, IsNotAllowed, StandsBefore};
@@ -66,7 +66,7 @@ fn stands_before(def: &IndexDef, n: usize) -> bool
 /// The place, from 0, of the first of the columns that stands before already. None where they differ.
 fn first_twice(def: &IndexDef) -> Option<usize>
     requires { length def.now.keys.items + length def.now.include.items ≤ MOST_COLUMNS }
-    ensures { MatchOption result (AreDifferent (columns_of (index_of def.now)))
+    ensures { MatchOption result (AreDifferentColumns (columns_of (index_of def.now)))
         (IsFirstTwice (columns_of (index_of def.now))) }
 {
     for n in 0..def.keys.len() + def.include.len() {

@@ -3,7 +3,7 @@
 ghost use Rattle.std.specs.Prelude.{◌≡◌, ◌≤◌, length, OnOk};
 ghost use Rattle.catalog.specs.Contents.{IsTable, IsColumn, table_at};
 ghost use Rattle.catalog.specs.Indexes.{type_at};
-ghost use Rattle.index_reader.specs.Keys.{key_bound, keys_of};
+ghost use Rattle.index_reader.specs.Keys.{key_bound, all_key_trees};
 ghost use Rattle.index_reader.specs.Reads.{words_of_keys_left, ReadsEach, StandsKey, ReadsIndexKey};
 ghost use Rattle.expr_reader.specs.Reading.{StandsList, IfList};
 
@@ -77,7 +77,7 @@ pub fn keys(
     requires there { IsTable cat.now table }
     requires words { StandsList words_of_keys_left from.old }
     ensures { IfList words_of_keys_left from.old (λ x xs m rest.
-        ReadsEach (key_bound cat.now table method) (keys_of x xs) rest result from.new) }
+        ReadsEach (key_bound cat.now table method) (all_key_trees x xs) rest result from.new) }
 {
     let mut all = Vec::new(alloc);
     let first = one_key(alloc, cat, table, method, from)?;

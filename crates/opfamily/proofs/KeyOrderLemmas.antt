@@ -8,7 +8,7 @@ use Rattle.pg_value.specs.declared.value.Value.{Value}
 use Rattle.pg_value.specs.declared.value.Value.TheVariants.{Null}
 use Rattle.pg_value.proofs.ColumnOrderLemmas.{column_total}
 use Rattle.opfamily.specs.declared.classes.IndexKey.{IndexKey}
-use Rattle.opfamily.specs.KeyOrder.{key_family, key_order, first_value, later_values, key_values_order, Entry, entry_order}
+use Rattle.opfamily.specs.KeyOrder.{key_family, key_order, first_value, later_values, key_values_order, IndexEntry, entry_order}
 
 pub key_total : (k : IndexKey) → IsTotalOrder (key_order k)
 key_total k = column_total (key_family k) k.descending k.nulls_first
@@ -18,7 +18,7 @@ keys_total [] = record { antisymm = λ x y. refl; trans = λ x y z p q. p; congr
 keys_total (k ∷ ks) = then_total (on_total first_value (key_total k)) (on_total later_values (keys_total ks))
 
 pub entries_total : (ks : List IndexKey) → IsTotalOrder (entry_order ks)
-entries_total ks = then_total (on_total (λ (e : Entry). e.keys) (keys_total ks)) (on_total (λ (e : Entry). e.row) nat_cmp_total)
+entries_total ks = then_total (on_total (λ (e : IndexEntry). e.keys) (keys_total ks)) (on_total (λ (e : IndexEntry). e.row) nat_cmp_total)
 
 pub first-drop : (vs : List Value) (i : ℕ) → first_value (drop i vs) ≡ get_or vs i Null
 first-drop [] zero = refl

@@ -11,7 +11,7 @@ use Rattle.opfamily.specs.declared.classes.Method.{Method}
 use Rattle.opfamily.specs.declared.classes.Method.TheVariants.{Btree, Hash}
 use Rattle.opfamily.specs.declared.classes.OpClass.{OpClass}
 use Rattle.opfamily.specs.declared.classes.OpClass.TheVariants.{Int2Ops, Int4Ops, Int8Ops, TextOps, BoolOps, Int2AbsOps, Int4AbsOps, Int8AbsOps}
-use Rattle.opfamily.specs.Table.{Member, Class, Row, table}
+use Rattle.opfamily.specs.Table.{Member, ClassRow, Row, table}
 
 -- the names that are compared, each by its place in its own list
 abbrev pub family_place : Family → ℕ
@@ -63,8 +63,8 @@ abbrev pub is_type : SqlType → SqlType → Bool
 is_type t u = nat_eq (type_place t) (type_place u)
 
 -- the row of a family
-abbrev pub row_of : Family → Option Row
-row_of f = find (λ row. nat_eq (family_place row.family) (family_place f)) table
+abbrev pub family_row : Family → Option Row
+family_row f = find (λ row. nat_eq (family_place row.family) (family_place f)) table
 
 -- the operators that a row has for a method
 abbrev pub members : Method → Row → List Member
@@ -85,7 +85,7 @@ takes f t = list_any (λ row. nat_eq (family_place row.family) (family_place f) 
 
 -- the strategy that the family's row has for the operator
 abbrev pub number_in : Family → Method → Op → Option ℕ
-number_in f m op = option_map (λ member. member.strategy) (option_and_then (λ row. member_of op (members m row)) (row_of f))
+number_in f m op = option_map (λ member. member.strategy) (option_and_then (λ row. member_of op (members m row)) (family_row f))
 
 -- a strategy number where a test holds, else none
 abbrev pub when : Bool → Option ℕ → Option ℕ
@@ -114,7 +114,7 @@ abbrev pub has_class : Row → OpClass → Bool
 has_class row c = list_any (λ listed. nat_eq (class_place listed.class) (class_place c)) row.classes
 
 -- all classes of the table
-abbrev pub classes : List Class
+abbrev pub classes : List ClassRow
 classes = flat_map (λ row. row.classes) table
 
 -- the class of a name
@@ -122,7 +122,7 @@ abbrev pub class_of_name : List ℕ → Option OpClass
 class_of_name name = option_map (λ listed. listed.class) (find (λ listed. bytes_eq listed.name name) classes)
 
 -- what the table says of an operator class; each has one entry
-abbrev pub listed_class : OpClass → Option Class
+abbrev pub listed_class : OpClass → Option ClassRow
 listed_class c = find (λ listed. nat_eq (class_place listed.class) (class_place c)) classes
 
 -- the type of the columns for which an operator class is (pg_opclass, opcintype)
@@ -138,11 +138,11 @@ abbrev pub default_family_of : SqlType → Option Family
 default_family_of t = option_map (λ row. row.family) (find (λ row. row.is_default && row_takes row t) table)
 
 -- an operator class is there for the access method (pg_opclass, opcmethod)
-abbrev pub has_method : Class → Method → Bool
+abbrev pub has_method : ClassRow → Method → Bool
 has_method listed m = list_any (λ n. nat_eq (method_place n) (method_place m)) listed.methods
 
 -- a class accepts its own type, for the methods that have it
-abbrev pub class_accepts : Class → Method → SqlType → Bool
+abbrev pub class_accepts : ClassRow → Method → SqlType → Bool
 class_accepts listed m t = has_method listed m && is_type listed.own_type t
 
 -- an index of the method may name the operator class for a column of the type (CREATE INDEX)

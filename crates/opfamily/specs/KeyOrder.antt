@@ -41,14 +41,14 @@ key_values_order [] = λ a b. Equal
 key_values_order (k ∷ ks) = then_cmp (on first_value (key_order k)) (on later_values (key_values_order ks))
 
 -- an entry: a row's number, its key values and the values that it includes
-pub record Entry : Type 0 where
+pub record IndexEntry : Type 0 where
   pub row : ℕ
   pub keys : List Value
   pub include : List Value
 
 -- the order of entries: by the keys, then by the row number
-abbrev pub entry_order : List IndexKey → Entry → Entry → Ordering
-entry_order ks = then_cmp (on (λ (e : Entry). e.keys) (key_values_order ks)) (on (λ (e : Entry). e.row) nat_cmp)
+abbrev pub entry_order : List IndexKey → IndexEntry → IndexEntry → Ordering
+entry_order ks = then_cmp (on (λ (e : IndexEntry). e.keys) (key_values_order ks)) (on (λ (e : IndexEntry). e.row) nat_cmp)
 
 -- one value for each key, NULL or of the kind that the key's family orders
 abbrev pub AreKeyValues : List IndexKey → List Value → Type 0

@@ -17,7 +17,7 @@ pub record Member : Type 0 where
   pub strategy : ℕ
 
 -- an operator class: its name, the one type that it accepts, and the access methods that have it
-pub record Class : Type 0 where
+pub record ClassRow : Type 0 where
   pub class : OpClass
   pub name : List ℕ
   pub own_type : SqlType
@@ -30,14 +30,14 @@ pub record Row : Type 0 where
   pub types : List SqlType
   pub btree : List Member
   pub hash : List Member
-  pub classes : List Class
+  pub classes : List ClassRow
 
 -- an operator with its strategy number in a family
 abbrev pub member : Op → ℕ → Member
 member op strategy = record { op = op; strategy = strategy }
 
 -- an operator class with its name, its type and its access methods
-abbrev pub class : OpClass → List ℕ → SqlType → List Method → Class
+abbrev pub class : OpClass → List ℕ → SqlType → List Method → ClassRow
 class c name own_type methods = record { class = c; name = name; own_type = own_type; methods = methods }
 
 -- < <= = >= > with strategies 1 to 5

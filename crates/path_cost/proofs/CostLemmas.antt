@@ -5,14 +5,14 @@ use Rattle.std.proofs.lemmas.Bool.{cases_lt}
 use Rattle.pg_expr.specs.AtomSets.{contains}
 use Rattle.eq_classes.specs.Clauses.{Clause, Set}
 use Rattle.eq_classes.specs.Listing.{clause_at}
-use Rattle.eq_classes.specs.Parts.{is_base, is_param}
+use Rattle.eq_classes.specs.Parts.{is_base, is_param, is_local}
 use Rattle.pg_expr.specs.Columns.{atom_count}
 use Rattle.cost_rules.specs.Costs.{pair, capped, capped_pair, row_cost}
 use Rattle.cost_rules.specs.Scans.{bitmap_scan_cost, fetch_cost, index_scan_cost, heap_pages_of, page_in_order, run_cost, seq_scan_cost}
 use Rattle.cost_rules.specs.declared.parameters.TheConstants.{MOST_COST, SEQUENTIAL_PAGE}
 use Rattle.cost_rules.proofs.RisingLemmas.{once-at_least}
 use Rattle.path_cost.specs.Costs.{operators}
-use Rattle.path_cost.specs.Estimates.{either, either_but, conditions_from, conditions_where, is_local}
+use Rattle.path_cost.specs.Estimates.{either, either_but, conditions_from, conditions_where}
 use Rattle.path_cost.proofs.KeptLemmas.{where_params, where-from, from-same, conditions-at}
 
 -- rows with operators past what a word holds

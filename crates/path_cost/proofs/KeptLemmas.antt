@@ -4,14 +4,14 @@ use Rattle.std.proofs.lemmas.Grind.{common_steps}
 use Rattle.std.proofs.lemmas.List.{drop_more}
 use Rattle.std.specs.Prelude.{map, filter, fold, nat_lt, ◌&&◌, ◌||◌}
 use Rattle.pg_expr.specs.AtomSets.{contains}
-use Rattle.eq_classes.specs.Parts.{is_all, is_base, is_join, is_param}
+use Rattle.eq_classes.specs.Parts.{is_all, is_base, is_join, is_param, is_local}
 use Rattle.pg_expr.specs.Cond.{Cond}
 use Rattle.catalog.specs.Contents.{Contents}
 use Rattle.catalog.specs.Range.{Range}
 use Rattle.eq_classes.specs.Clauses.{Clause, ClassTable, Set}
 use Rattle.eq_classes.specs.Listing.{clause_at}
 use Rattle.exact_rows.specs.Rows.{share_kept}
-use Rattle.path_cost.specs.Estimates.{either, conditions_from, conditions_where, is_local, is_number_where, is_pair_of, numbers_from}
+use Rattle.path_cost.specs.Estimates.{either, conditions_from, conditions_where, is_number_where, is_pair_of, set_numbers_from}
 use Rattle.path_cost.specs.Selectivity.{weight, weights}
 use Rattle.path_cost.proofs.NumberLemmas.{numbers-at, numbers-same}
 
@@ -24,7 +24,7 @@ conditions-at ks chosen n b lt e =
 
 -- what is left of some rows after those conditions of a list, from a number on, that have a number of a set below so many
 abbrev pub left_after : Contents → Range → List Cond → (ℕ → Bool) → ℕ → ℕ → ℕ → ℕ
-left_after c range es set len n left = fold share_kept left (weights c range es (numbers_from n (len - n) set))
+left_after c range es set len n left = fold share_kept left (weights c range es (set_numbers_from n (len - n) set))
 
 module _ (c : Contents) (range : Range) (es : List Cond) (set : ℕ → Bool) (len n left next : ℕ) where
   pub kept-yes : n < len → set n ≡ true → next ≡ share_kept left (weight c range es n) → left_after c range es set len n left ≡ left_after c range es set len (n + 1) next
@@ -71,18 +71,18 @@ where_params r p base param ks h g =
 
 -- the numbers of a set are those of the clauses that pass a test
 module _ (t : ClassTable) where
-  numbered : (test : Clause → Bool) (set : ℕ → Bool) → ((k : ℕ) → k < length t.clauses → set k ≡ test (clause_at t.clauses k)) → numbers_from 0 (length t.clauses) set ≡ numbers_from 0 (length t.clauses) (is_number_where test t)
+  numbered : (test : Clause → Bool) (set : ℕ → Bool) → ((k : ℕ) → k < length t.clauses → set k ≡ test (clause_at t.clauses k)) → set_numbers_from 0 (length t.clauses) set ≡ set_numbers_from 0 (length t.clauses) (is_number_where test t)
   numbered test set h = numbers-same set (is_number_where test t) 0 (length t.clauses) (λ k low high. h k (omega (arith, high)))
 
   -- the numbers of a set alone, where a second one is empty
-  alone : (test : Clause → Bool) (chosen none : List ℕ) → ((k : ℕ) → contains chosen k ≡ nat_lt k (length t.clauses) && test (clause_at t.clauses k)) → ((k : ℕ) → contains none k ≡ false) → numbers_from 0 (length t.clauses) (either chosen none) ≡ numbers_from 0 (length t.clauses) (is_number_where test t)
+  alone : (test : Clause → Bool) (chosen none : List ℕ) → ((k : ℕ) → contains chosen k ≡ nat_lt k (length t.clauses) && test (clause_at t.clauses k)) → ((k : ℕ) → contains none k ≡ false) → set_numbers_from 0 (length t.clauses) (either chosen none) ≡ set_numbers_from 0 (length t.clauses) (is_number_where test t)
   alone test chosen none h g = numbered test (either chosen none) (λ k lt. one k (length t.clauses) (test (clause_at t.clauses k)) (contains chosen k) (contains none k) lt (h k) (g k))
     where
       one : (n m : ℕ) (a x y : Bool) → n < m → x ≡ nat_lt n m && a → y ≡ false → x || y ≡ a
       one n m a x y lt e f = grind (arith, common_steps, lt, e, f)
 
 -- the numbers of the clauses of a relation, and of its parameterisation
-pub params_numbered : (r : ℕ) (p : Set) (base param : List ℕ) (t : ClassTable) → ((k : ℕ) → contains base k ≡ nat_lt k (length t.clauses) && is_base r (clause_at t.clauses k)) → ((k : ℕ) → contains param k ≡ nat_lt k (length t.clauses) && is_param r p (clause_at t.clauses k)) → numbers_from 0 (length t.clauses) (either base param) ≡ numbers_from 0 (length t.clauses) (is_number_where (is_local r p) t)
+pub params_numbered : (r : ℕ) (p : Set) (base param : List ℕ) (t : ClassTable) → ((k : ℕ) → contains base k ≡ nat_lt k (length t.clauses) && is_base r (clause_at t.clauses k)) → ((k : ℕ) → contains param k ≡ nat_lt k (length t.clauses) && is_param r p (clause_at t.clauses k)) → set_numbers_from 0 (length t.clauses) (either base param) ≡ set_numbers_from 0 (length t.clauses) (is_number_where (is_local r p) t)
 params_numbered r p base param t h g =
     numbered t (is_local r p) (either base param) (λ k lt. two k (length t.clauses) (is_base r (clause_at t.clauses k)) (is_param r p (clause_at t.clauses k)) (contains base k) (contains param k) lt (h k) (g k))
   where
@@ -90,11 +90,11 @@ params_numbered r p base param t h g =
     two n m a b x y lt e f = grind (arith, common_steps, lt, e, f)
 
 -- the numbers of the clauses inside a set of relations
-pub all_numbered : (set : Set) (all none : List ℕ) (t : ClassTable) → ((k : ℕ) → contains all k ≡ nat_lt k (length t.clauses) && is_all set (clause_at t.clauses k)) → ((k : ℕ) → contains none k ≡ false) → numbers_from 0 (length t.clauses) (either all none) ≡ numbers_from 0 (length t.clauses) (is_number_where (is_all set) t)
+pub all_numbered : (set : Set) (all none : List ℕ) (t : ClassTable) → ((k : ℕ) → contains all k ≡ nat_lt k (length t.clauses) && is_all set (clause_at t.clauses k)) → ((k : ℕ) → contains none k ≡ false) → set_numbers_from 0 (length t.clauses) (either all none) ≡ set_numbers_from 0 (length t.clauses) (is_number_where (is_all set) t)
 all_numbered set all none t h g = alone t (is_all set) all none h g
 
 -- the numbers of the pair clauses of some classes among the clauses that join two sets
-pub pairs_numbered : (a b : Set) (keys equal none : List ℕ) (t : ClassTable) → ((k : ℕ) → contains equal k ≡ nat_lt k (length t.clauses) && (is_join a b (clause_at t.clauses k) && is_pair_of keys (clause_at t.clauses k))) → ((k : ℕ) → contains none k ≡ false) → numbers_from 0 (length t.clauses) (either equal none) ≡ numbers_from 0 (length t.clauses) (is_number_where (λ k. is_join a b k && is_pair_of keys k) t)
+pub pairs_numbered : (a b : Set) (keys equal none : List ℕ) (t : ClassTable) → ((k : ℕ) → contains equal k ≡ nat_lt k (length t.clauses) && (is_join a b (clause_at t.clauses k) && is_pair_of keys (clause_at t.clauses k))) → ((k : ℕ) → contains none k ≡ false) → set_numbers_from 0 (length t.clauses) (either equal none) ≡ set_numbers_from 0 (length t.clauses) (is_number_where (λ k. is_join a b k && is_pair_of keys k) t)
 pairs_numbered a b keys equal none t h g = alone t (λ k. is_join a b k && is_pair_of keys k) equal none h g
 
 -- inside a list at a place of it
@@ -110,7 +110,7 @@ from-same n f g (k ∷ ks) h =
     ap (λ b. cond b (k.cond ∷ conditions_from (n + 1) f ks) (conditions_from (n + 1) f ks)) here ∙ ap (λ xs. cond (g n) (k.cond ∷ xs) xs) later
 
 -- the numbers of a set of clauses alone, where a second one is empty
-pub used_alone : (used none : List ℕ) (t : ClassTable) → ((k : ℕ) → contains none k ≡ false) → numbers_from 0 (length t.clauses) (either used none) ≡ numbers_from 0 (length t.clauses) (contains used)
+pub used_alone : (used none : List ℕ) (t : ClassTable) → ((k : ℕ) → contains none k ≡ false) → set_numbers_from 0 (length t.clauses) (either used none) ≡ set_numbers_from 0 (length t.clauses) (contains used)
 used_alone used none t g = numbers-same (either used none) (contains used) 0 (length t.clauses) (λ k low high. only (contains used k) (contains none k) (g k))
   where
     only : (x y : Bool) → y ≡ false → x || y ≡ x

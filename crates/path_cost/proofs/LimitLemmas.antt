@@ -9,7 +9,7 @@ use Rattle.catalog.specs.Range.{Range, table_of, type_in}
 use Rattle.catalog.specs.Statistics.{IsLawfulStatistics, Statistics}
 use Rattle.catalog.specs.Tables.{rows_by, rows_of}
 use Rattle.catalog.specs.declared.table.Sizes.{Sizes}
-use Rattle.path_cost.specs.Columns.{AreTables, is_column_in, known, stats_of, stats_or}
+use Rattle.path_cost.specs.Columns.{AreTables, is_column_in, known_statistics, stats_of, stats_or}
 use Rattle.path_cost.proofs.ColumnLemmas.{column_laws, stats_lawful, unknown_lawful}
 
 -- a table has a row
@@ -22,8 +22,8 @@ rows-some c t h there = some-sized (table_at c t).loaded (table_at c t).sizes (h
 
 -- what is taken to be known of a column is lawful
 pub known-lawful : (c : Contents) (range : Range) → IsLawful c → AreTables c range → (x : ColRef) → IsTrue (is_column_in c range x) → IsLawfulStatistics (type_in c range x) (stats_of c range x)
-known-lawful c range lawful tables x h = by (known c range x) refl
+known-lawful c range lawful tables x h = by (known_statistics c range x) refl
   where
-    by : (o : Option Statistics) → known c range x ≡ o → IsLawfulStatistics (type_in c range x) (stats_or (rows_of c (table_of range x)) o)
+    by : (o : Option Statistics) → known_statistics c range x ≡ o → IsLawfulStatistics (type_in c range x) (stats_or (rows_of c (table_of range x)) o)
     by None e = unknown_lawful (type_in c range x) (rows_of c (table_of range x)) (rows-some c (table_of range x) lawful (column_laws c range x tables h).1)
     by (Some s) e = stats_lawful c (table_of range x) x.col s lawful (column_laws c range x tables h).1 e

@@ -23,7 +23,7 @@ use Rattle.pg_value.proofs.OrderLaws.{value_total}
 use Rattle.pg_expr.specs.Typed.{some_value}
 use Rattle.pg_expr.proofs.DefinedLaws.{IsLike, like_type}
 use Rattle.catalog.specs.Statistics.{IsLawfulStatistics, IsValueOf, Statistics, bound_at, is_below}
-use Rattle.path_cost.specs.Selectivity.{apart, bounds_passed, count_holding, holds, met_of, passing, place, place_in, step_of, twice_up}
+use Rattle.path_cost.specs.Selectivity.{apart, bounds_passed, count_holding, comparison_holds, met_of, passing, place, part_below_literal, histogram_step, twice_up}
 
 pub quotient-most : (n m d : ℕ) → 1 ≤ d → n ≤ m * d → n / d ≤ m
 quotient-most n m d some h = omega (arith, ceil-least n m d some h)
@@ -114,13 +114,13 @@ kind-like s v h l = absurd l
 kind-same : (t : SqlType) (a b : Value) → IsValueOf t a → IsValueOf t b → kind_family a ≡ kind_family b
 kind-same t a b h k = kind-like (some_value t) a h.0 (like_type t a h.1) ∙ sym (kind-like (some_value t) b k.0 (like_type t b k.1))
 
-test-null : (op : Op) (b : Value) → holds op b Null ≡ false
+test-null : (op : Op) (b : Value) → comparison_holds op b Null ≡ false
 test-null op Null = refl
 test-null op (Int x) = refl
 test-null op (Flag x) = refl
 test-null op (String x) = refl
 
-test-known : (op : Op) (b v : Value) → b ≢ Null → v ≢ Null → holds op b v ≡ is_true (truth_of (accepts op (value_order (comparing_family op b) b v)))
+test-known : (op : Op) (b v : Value) → b ≢ Null → v ≢ Null → comparison_holds op b v ≡ is_true (truth_of (accepts op (value_order (comparing_family op b) b v)))
 test-known op Null v h k = absurd (h refl)
 test-known op (Int x) Null h k = absurd (k refl)
 test-known op (Int x) (Int y) h k = refl
@@ -144,25 +144,25 @@ module _ (op : Op) (plain : is_absolute op ≡ false) (less : accepted op Less �
   compared-by : (x y : Value) → kind_family x ≡ kind_family y → comparing_family op x ≡ kind_family y
   compared-by x y e = ap (λ b. cond b IntAbs (kind_family x)) plain ∙ e
 
-  known-down : (x y v : Value) → IsValueOf t x → IsValueOf t y → v ≢ Null → is_below y x ≡ false → holds op y v ≡ true → holds op x v ≡ true
+  known-down : (x y v : Value) → IsValueOf t x → IsValueOf t y → v ≢ Null → is_below y x ≡ false → comparison_holds op y v ≡ true → comparison_holds op x v ≡ true
   known-down x y v h k some rising holding =
       test-known op x v h.0 some ∙ ap (λ (f : Family). accepted op (value_order f x v)) (compared-by x y (kind-same t x y h k))
       ∙ passes (value_order (kind_family y)) (value_total (kind_family y)) (accepted op) less greater x y v rising
       (sym (ap (λ (f : Family). accepted op (value_order f y v)) (compared-by y y refl)) ∙ sym (test-known op y v k.0 some) ∙ holding)
 
-  down : (x y v : Value) → IsValueOf t x → IsValueOf t y → is_below y x ≡ false → holds op y v ≡ true → holds op x v ≡ true
+  down : (x y v : Value) → IsValueOf t x → IsValueOf t y → is_below y x ≡ false → comparison_holds op y v ≡ true → comparison_holds op x v ≡ true
   down x y Null h k rising holding = absurd (true≢false (sym holding ∙ test-null op y))
   down x y (Int n) h k rising holding = known-down x y (Int n) h k (λ (e : Int n ≡ Null). cc) rising holding
   down x y (Flag b) h k rising holding = known-down x y (Flag b) h k (λ (e : Flag b ≡ Null). cc) rising holding
   down x y (String s) h k rising holding = known-down x y (String s) h k (λ (e : String s ≡ Null). cc) rising holding
 
   -- the first bounds of a lawful histogram are passed, as many as are counted
-  passed-first : (s : Statistics) → IsLawfulStatistics t s → (v : Value) (n : ℕ) → n < length s.histogram → holds op (bound_at s n) v ≡ nat_lt n (count_holding op s.histogram v)
-  passed-first s h v = counted (λ b. holds op b v) Null s.histogram
+  passed-first : (s : Statistics) → IsLawfulStatistics t s → (v : Value) (n : ℕ) → n < length s.histogram → comparison_holds op (bound_at s n) v ≡ nat_lt n (count_holding op s.histogram v)
+  passed-first s h v = counted (λ b. comparison_holds op b v) Null s.histogram
       (λ n lt. down (bound_at s n) (bound_at s (suc n)) v (h.values.histogram n Null (omega (arith, lt))) (h.values.histogram (suc n) Null lt)
       (subst (λ m. is_below (bound_at s m) (bound_at s n) ≡ false) (let same : n + 1 ≡ suc n = omega arith in same) (h.rising n (omega (arith, lt)))))
 
-passed : (op : Op) (t : SqlType) (s : Statistics) → IsLawfulStatistics t s → (v : Value) (n : ℕ) → n < length s.histogram → holds (passing op) (bound_at s n) v ≡ nat_lt n (bounds_passed op s.histogram v)
+passed : (op : Op) (t : SqlType) (s : Statistics) → IsLawfulStatistics t s → (v : Value) (n : ℕ) → n < length s.histogram → comparison_holds (passing op) (bound_at s n) v ≡ nat_lt n (bounds_passed op s.histogram v)
 passed Lt t s h = passed-first Lt refl refl refl t s h
 passed Ge t s h = passed-first Lt refl refl refl t s h
 passed Le t s h = passed-first Le refl refl refl t s h
@@ -177,9 +177,9 @@ passed AbsGt t s h = passed-first Le refl refl refl t s h
 
 -- a bound is passed exactly where its place is before those that are counted
 pub half-way : (t : SqlType) (s : Statistics) → IsLawfulStatistics t s → (op below : Op) (v : Value) (n : ℕ) (d : Value) (is : Bool) → below ≡ passing op → n < length s.histogram →
-    is ≡ holds below (slice_index_or s.histogram n d) v → is ≡ nat_lt n (bounds_passed op s.histogram v)
+    is ≡ comparison_holds below (slice_index_or s.histogram n d) v → is ≡ nat_lt n (bounds_passed op s.histogram v)
 half-way t s h op below v n d is e within f =
-    f ∙ ap (λ o. holds o (slice_index_or s.histogram n d) v) e ∙ ap (λ b. holds (passing op) b v) (get_or_default s.histogram n d Null within) ∙ passed op t s h v n within
+    f ∙ ap (λ o. comparison_holds o (slice_index_or s.histogram n d) v) e ∙ ap (λ b. comparison_holds (passing op) b v) (get_or_default s.histogram n d Null within) ∙ passed op t s h v n within
 
 pub few-passed : (op : Op) (histogram : List Value) (v : Value) → bounds_passed op histogram v ≤ length histogram
 few-passed op histogram v = count_by-le-length _ histogram
@@ -208,7 +208,7 @@ lt-step a b v h k = (omega (arith, ints, h, k), omega (arith, ints, h, k))
 le-step : (a b v : ℤ) → int_lt v a ≡ false → int_lt v b ≡ true → (2 * apart a v + 1 ≤ 2 * apart a b) × (1 ≤ apart a b)
 le-step a b v h k = (omega (arith, ints, h, k), omega (arith, ints, h, k))
 
-below-step : (a b v : ℤ) → holds Lt (Int a) (Int v) ≡ true → holds Lt (Int b) (Int v) ≡ false → (2 * apart a v - 1 ≤ 2 * apart a b) × (1 ≤ apart a b)
+below-step : (a b v : ℤ) → comparison_holds Lt (Int a) (Int v) ≡ true → comparison_holds Lt (Int b) (Int v) ≡ false → (2 * apart a v - 1 ≤ 2 * apart a b) × (1 ≤ apart a b)
 below-step a b v h k = lt-step a b v (sym (lt-is (int_lt a v) (int_lt v a)) ∙ h) (sym (lt-is (int_lt b v) (int_lt v b)) ∙ k)
 
 not-back : (b c : Bool) → not b ≡ not c → b ≡ c
@@ -217,13 +217,13 @@ not-back true false e = cc
 not-back false true e = cc
 not-back false false e = refl
 
-above-step : (a b v : ℤ) → holds Le (Int a) (Int v) ≡ true → holds Le (Int b) (Int v) ≡ false → (2 * apart a v + 1 ≤ 2 * apart a b) × (1 ≤ apart a b)
+above-step : (a b v : ℤ) → comparison_holds Le (Int a) (Int v) ≡ true → comparison_holds Le (Int b) (Int v) ≡ false → (2 * apart a v + 1 ≤ 2 * apart a b) × (1 ≤ apart a b)
 above-step a b v h k = le-step a b v
     (not-back (int_lt v a) false (sym (le-is (int_lt a v) (int_lt v a) (one-way a v)) ∙ h))
     (not-back (int_lt v b) true (sym (le-is (int_lt b v) (int_lt v b) (one-way b v)) ∙ k))
 
 -- a literal between two bounds is in the step between them
-int-step : (op : Op) (a b v : ℤ) → holds (passing op) (Int a) (Int v) ≡ true → holds (passing op) (Int b) (Int v) ≡ false → (twice_up op (apart a v) ≤ 2 * apart a b) × (1 ≤ apart a b)
+int-step : (op : Op) (a b v : ℤ) → comparison_holds (passing op) (Int a) (Int v) ≡ true → comparison_holds (passing op) (Int b) (Int v) ≡ false → (twice_up op (apart a v) ≤ 2 * apart a b) × (1 ≤ apart a b)
 int-step Lt a b v h k = below-step a b v h k
 int-step Ge a b v h k = below-step a b v h k
 int-step Le a b v h k = above-step a b v h k
@@ -242,7 +242,7 @@ IsStep w = (w.1 ≤ 2 * w.0) × (1 ≤ w.0)
 half-step : IsStep (1, 1)
 half-step = (omega arith, omega arith)
 
-step-fits : (op : Op) (a b v : Value) → holds (passing op) a v ≡ true → holds (passing op) b v ≡ false → IsStep (step_of op a b v)
+step-fits : (op : Op) (a b v : Value) → comparison_holds (passing op) a v ≡ true → comparison_holds (passing op) b v ≡ false → IsStep (histogram_step op a b v)
 step-fits op (Int a) (Int b) (Int v) h k = int-step op a b v h k
 step-fits op (Int a) (Int b) Null h k = half-step
 step-fits op (Int a) (Int b) (Flag v) h k = half-step
@@ -257,7 +257,7 @@ step-fits op (String a) b v h k = half-step
 abbrev IsPart : ℕ × ℕ → Type 0
 IsPart p = (p.0 ≤ p.1) × (1 ≤ p.1)
 
-place-in-fits : (k j g u : ℕ) → 1 ≤ j → j < k → u ≤ 2 * g → 1 ≤ g → IsPart (place_in k j (g, u))
+place-in-fits : (k j g u : ℕ) → 1 ≤ j → j < k → u ≤ 2 * g → 1 ≤ g → IsPart (part_below_literal k j (g, u))
 place-in-fits k j g u some within up wide =
     let split : (2 * j - 2 + 2) * g ≡ (2 * j - 2) * g + 2 * g = add-mul (2 * j - 2) 2 g in
     let less : (2 * j - 2 + 2) * g ≤ 2 * (k - 1) * g = mul-le-mul_right g (omega (arith, some, within)) in
@@ -278,7 +278,7 @@ place-fits t s h op v some = by (nat_eq j 0) (nat_eq j k) refl refl
     j = bounds_passed op s.histogram v
 
     w : ℕ × ℕ
-    w = step_of op (bound_at s (j - 1)) (bound_at s j) v
+    w = histogram_step op (bound_at s (j - 1)) (bound_at s j) v
 
     few : j ≤ k
     few = count_by-le-length _ s.histogram
@@ -286,14 +286,14 @@ place-fits t s h op v some = by (nat_eq j 0) (nat_eq j k) refl refl
     whole : 1 ≤ 2 * (k - 1)
     whole = omega (arith, some, h.two)
 
-    between : 1 ≤ j → j < k → IsPart (place_in k j w)
+    between : 1 ≤ j → j < k → IsPart (part_below_literal k j w)
     between first last =
         let step = step-fits op (bound_at s (j - 1)) (bound_at s j) v
         (passed op t s h v (j - 1) (omega (arith, first, last)) ∙ (let lt : nat_lt (j - 1) j ≡ true = grind (arith, nat_tests, first) in lt))
         (passed op t s h v j last ∙ (let lt : nat_lt j j ≡ false = grind (arith, nat_tests) in lt)) in
         place-in-fits k j w.0 w.1 first last step.0 step.1
 
-    by : (b d : Bool) → nat_eq j 0 ≡ b → nat_eq j k ≡ d → IsPart (cond b (0, 2 * (k - 1)) (cond d (2 * (k - 1), 2 * (k - 1)) (place_in k j w)))
+    by : (b d : Bool) → nat_eq j 0 ≡ b → nat_eq j k ≡ d → IsPart (cond b (0, 2 * (k - 1)) (cond d (2 * (k - 1), 2 * (k - 1)) (part_below_literal k j w)))
     by true d e f = (omega arith, whole)
     by false true e f = (omega arith, whole)
     by false false e f = between (grind (arith, nat_tests, common_steps, e)) (grind (arith, nat_tests, common_steps, f, few))
@@ -320,15 +320,15 @@ met-most t s h op v some =
 
 -- the place of a literal behind some bounds and before others
 pub place-between : (op : Op) (s : Statistics) (v : Value) (j : ℕ) (a b : Value) (w p : ℕ × ℕ) → j ≡ bounds_passed op s.histogram v → 1 ≤ j → j < length s.histogram →
-    w ≡ step_of op (slice_index_or s.histogram (j - 1) a) (slice_index_or s.histogram j b) v → p ≡ place_in (length s.histogram) j w → p ≡ place op s v (bounds_passed op s.histogram v)
+    w ≡ histogram_step op (slice_index_or s.histogram (j - 1) a) (slice_index_or s.histogram j b) v → p ≡ part_below_literal (length s.histogram) j w → p ≡ place op s v (bounds_passed op s.histogram v)
 place-between op s v j a b w p count some within step is =
-    is ∙ ap (place_in (length s.histogram) j) (step ∙ ap (λ x. step_of op x (slice_index_or s.histogram j b) v) (get_or_default s.histogram (j - 1) a Null (omega (arith, some, within))) ∙ ap (λ x. step_of op (bound_at s (j - 1)) x v) (get_or_default s.histogram j b Null within))
+    is ∙ ap (part_below_literal (length s.histogram) j) (step ∙ ap (λ x. histogram_step op x (slice_index_or s.histogram j b) v) (get_or_default s.histogram (j - 1) a Null (omega (arith, some, within))) ∙ ap (λ x. histogram_step op (bound_at s (j - 1)) x v) (get_or_default s.histogram j b Null within))
     ∙ by (nat_eq j 0) (nat_eq j (length s.histogram)) refl refl ∙ ap (place op s v) count
   where
     by : (d e : Bool) → nat_eq j 0 ≡ d → nat_eq j (length s.histogram) ≡ e →
-        place_in (length s.histogram) j (step_of op (bound_at s (j - 1)) (bound_at s j) v) ≡
-        cond (nat_eq j 0) (0, 2 * (length s.histogram - 1)) (cond (nat_eq j (length s.histogram)) (2 * (length s.histogram - 1), 2 * (length s.histogram - 1)) (place_in (length s.histogram) j (step_of op (bound_at s (j - 1)) (bound_at s j) v)))
+        part_below_literal (length s.histogram) j (histogram_step op (bound_at s (j - 1)) (bound_at s j) v) ≡
+        cond (nat_eq j 0) (0, 2 * (length s.histogram - 1)) (cond (nat_eq j (length s.histogram)) (2 * (length s.histogram - 1), 2 * (length s.histogram - 1)) (part_below_literal (length s.histogram) j (histogram_step op (bound_at s (j - 1)) (bound_at s j) v)))
     by true e f g = absurd (grind (arith, common_steps, f, some))
     by false true f g = absurd (grind (arith, common_steps, g, within))
-    by false false f g = sym (ap (λ t. cond t (0, 2 * (length s.histogram - 1)) (cond (nat_eq j (length s.histogram)) (2 * (length s.histogram - 1), 2 * (length s.histogram - 1)) (place_in (length s.histogram) j (step_of op (bound_at s (j - 1)) (bound_at s j) v)))) f
-        ∙ ap (λ t. cond t (2 * (length s.histogram - 1), 2 * (length s.histogram - 1)) (place_in (length s.histogram) j (step_of op (bound_at s (j - 1)) (bound_at s j) v))) g)
+    by false false f g = sym (ap (λ t. cond t (0, 2 * (length s.histogram - 1)) (cond (nat_eq j (length s.histogram)) (2 * (length s.histogram - 1), 2 * (length s.histogram - 1)) (part_below_literal (length s.histogram) j (histogram_step op (bound_at s (j - 1)) (bound_at s j) v)))) f
+        ∙ ap (λ t. cond t (2 * (length s.histogram - 1), 2 * (length s.histogram - 1)) (part_below_literal (length s.histogram) j (histogram_step op (bound_at s (j - 1)) (bound_at s j) v))) g)

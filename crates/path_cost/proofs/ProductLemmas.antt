@@ -7,21 +7,21 @@ use Rattle.cost_rules.proofs.RisingLemmas.{once-at_least}
 use Rattle.exact_rows.specs.Rows.{most_of}
 use Rattle.exact_rows.specs.declared.rows.TheConstants.{MOST_FACTORS}
 use Rattle.exact_rows.proofs.RoomLemmas.{one-more, rises}
-use Rattle.path_cost.specs.Estimates.{numbers_from, product_from, table_rows}
+use Rattle.path_cost.specs.Estimates.{set_numbers_from, product_from, table_rows}
 use Rattle.path_cost.proofs.NumberLemmas.{numbers-at, numbers-none}
 
 module _ (c : Contents) (range : Range) (set : Set) (n len m next : ℕ) where
-  pub product-yes : n < len → set n ≡ true → next ≡ m * table_rows c range n → product_from c range m (numbers_from n (len - n) set) ≡ product_from c range next (numbers_from (n + 1) (len - (n + 1)) set)
+  pub product-yes : n < len → set n ≡ true → next ≡ m * table_rows c range n → product_from c range m (set_numbers_from n (len - n) set) ≡ product_from c range next (set_numbers_from (n + 1) (len - (n + 1)) set)
   product-yes lt e f =
       ap (product_from c range m) (numbers-at set n len true lt e)
-      ∙ ap (λ x. product_from c range x (numbers_from (n + 1) (len - (n + 1)) set)) (sym f)
+      ∙ ap (λ x. product_from c range x (set_numbers_from (n + 1) (len - (n + 1)) set)) (sym f)
 
-  pub product-no : n < len → set n ≡ false → next ≡ m → product_from c range m (numbers_from n (len - n) set) ≡ product_from c range next (numbers_from (n + 1) (len - (n + 1)) set)
+  pub product-no : n < len → set n ≡ false → next ≡ m → product_from c range m (set_numbers_from n (len - n) set) ≡ product_from c range next (set_numbers_from (n + 1) (len - (n + 1)) set)
   product-no lt e f =
       ap (product_from c range m) (numbers-at set n len false lt e)
-      ∙ ap (λ x. product_from c range x (numbers_from (n + 1) (len - (n + 1)) set)) (sym f)
+      ∙ ap (λ x. product_from c range x (set_numbers_from (n + 1) (len - (n + 1)) set)) (sym f)
 
-pub product-all : (c : Contents) (range : Range) (set : Set) (n len m whole : ℕ) → len ≤ n → product_from c range m (numbers_from n (len - n) set) ≡ whole → m ≡ whole
+pub product-all : (c : Contents) (range : Range) (set : Set) (n len m whole : ℕ) → len ≤ n → product_from c range m (set_numbers_from n (len - n) set) ≡ whole → m ≡ whole
 product-all c range set n len m whole past h = ap (product_from c range m) (sym (numbers-none set n len past)) ∙ h
 
 -- a table more has room, and the product a row

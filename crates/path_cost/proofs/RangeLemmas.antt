@@ -22,7 +22,7 @@ use Rattle.eq_classes.proofs.EqualLemmas.{column_is}
 use Rattle.path_cost.specs.declared.shares.TheConstants.{ALL_ROWS, PER_SHARE}
 use Rattle.path_cost.specs.Columns.{AreTables, IsOver, is_column_in, stats_of}
 use Rattle.path_cost.specs.Limits.{HasColumns}
-use Rattle.path_cost.specs.Ranges.{Bound, both_ends, bound_of, condition_at, has_bound, has_end, is_bound_at, is_side, side_of}
+use Rattle.path_cost.specs.Ranges.{ColumnBound, both_ends, bound_of, listed_condition, has_bound, has_end, is_bound_at, is_side, bounded_side}
 use Rattle.path_cost.specs.Selectivity.{bound_share, column_literal, column_range, end_weight, equal_by, inequality, is_ranged, least_bound, of_column_and, range_weight, valued}
 use Rattle.path_cost.proofs.LimitLemmas.{known-lawful}
 use Rattle.path_cost.proofs.ShareLemmas.{ranged-most}
@@ -35,9 +35,9 @@ pub record IsBoundOf (e : Cond) (x : ColRef) : Type 0 where
   pub share : (c : Contents) (range : Range) → bound_share c range e ≡ inequality op (stats_of c range x) value
 
 module _ (v : Value) (known : (c : Contents) (range : Range) (op : Op) (x : ColRef) → of_column_and c range op x v ≡ column_literal op (stats_of c range x) v) where
-  bounding : (op : Op) (x y : ColRef) (b d : Bool) → ((s : Statistics) → column_literal op s v ≡ inequality op s v) → ◌≡◌ {A = Option Bound} (Some (x, b)) (Some (y, d)) → IsBoundOf (compare op (Col x) (Lit v)) y
+  bounding : (op : Op) (x y : ColRef) (b d : Bool) → ((s : Statistics) → column_literal op s v ≡ inequality op s v) → ◌≡◌ {A = Option ColumnBound} (Some (x, b)) (Some (y, d)) → IsBoundOf (compare op (Col x) (Lit v)) y
   bounding op x y b d plain e =
-      let same : x ≡ y = ap (λ (p : Bound). p.0) (same_Some (x, b) (y, d) e) in
+      let same : x ≡ y = ap (λ (p : ColumnBound). p.0) (same_Some (x, b) (y, d) e) in
       record {
         op = op;
         value = v;
@@ -45,7 +45,7 @@ module _ (v : Value) (known : (c : Contents) (range : Range) (op : Op) (x : ColR
         share = λ c range. known c range op x ∙ plain (stats_of c range x) ∙ ap (λ z. inequality op (stats_of c range z) v) same;
       }
 
-  bound-side : (op : Op) (x y : ColRef) (d : Bool) → side_of op x ≡ Some (y, d) → IsBoundOf (compare op (Col x) (Lit v)) y
+  bound-side : (op : Op) (x y : ColRef) (d : Bool) → bounded_side op x ≡ Some (y, d) → IsBoundOf (compare op (Col x) (Lit v)) y
   bound-side Lt x y d e = bounding Lt x y false d (λ s. refl) e
   bound-side Le x y d e = bounding Le x y false d (λ s. refl) e
   bound-side Ge x y d e = bounding Ge x y true d (λ s. refl) e
@@ -73,7 +73,7 @@ bound-form (all_of es) x below e = cc
 bound-form (any_of es) x below e = cc
 bound-form (negation y) x below e = cc
 
-bound-at : (e : Cond) (x : ColRef) (below : Bool) (o : Option Bound) → bound_of e ≡ o → is_bound_at x below o ≡ true → IsBoundOf e x
+bound-at : (e : Cond) (x : ColRef) (below : Bool) (o : Option ColumnBound) → bound_of e ≡ o → is_bound_at x below o ≡ true → IsBoundOf e x
 bound-at e x below None f h = absurd (true≢false (sym h))
 bound-at e x below (Some (y, b)) f h =
     let same : x ≡ y = column_is x y (and_parts (is_column x y) (is_side below b) h).0 in
@@ -97,7 +97,7 @@ module _ (c : Contents) (range : Range) where
       by true h = omega (arith, h)
       by false h = h
 
-  least-at : (x : ColRef) (below : Bool) (es : List Cond) (n : ℕ) (e : Cond) (b : Bool) → n < length es → e ≡ condition_at es n → is_bound_at x below (bound_of e) ≡ b →
+  least-at : (x : ColRef) (below : Bool) (es : List Cond) (n : ℕ) (e : Cond) (b : Bool) → n < length es → e ≡ listed_condition es n → is_bound_at x below (bound_of e) ≡ b →
       least_bound c range x below (drop n es) ≡ cond b (min (bound_share c range e) (least_bound c range x below (drop (n + 1) es))) (least_bound c range x below (drop (n + 1) es))
   least-at x below es n e b lt same test =
       let rest = least_bound c range x below (drop (n + 1) es) in
@@ -105,7 +105,7 @@ module _ (c : Contents) (range : Range) where
       ∙ ap (λ (y : Cond). cond (is_bound_at x below (bound_of y)) (min (bound_share c range y) rest) rest) (sym same)
       ∙ ap (λ (t : Bool). cond t (min (bound_share c range e) rest) rest) test
 
-  pub least_yes : (x : ColRef) (below : Bool) (es : List Cond) (n least share next whole : ℕ) (e : Cond) → n < length es → e ≡ condition_at es n → is_bound_at x below (bound_of e) ≡ true → share ≡ bound_share c range e → next ≡ min least share →
+  pub least_yes : (x : ColRef) (below : Bool) (es : List Cond) (n least share next whole : ℕ) (e : Cond) → n < length es → e ≡ listed_condition es n → is_bound_at x below (bound_of e) ≡ true → share ≡ bound_share c range e → next ≡ min least share →
       min least (least_bound c range x below (drop n es)) ≡ whole → min next (least_bound c range x below (drop (n + 1) es)) ≡ whole
   least_yes x below es n least share next whole e lt same test is step all =
       by (least_bound c range x below (drop n es)) (bound_share c range e) (least_bound c range x below (drop (n + 1) es)) (least-at x below es n e true lt same test) is all
@@ -113,7 +113,7 @@ module _ (c : Contents) (range : Range) where
       by : (a b r : ℕ) → a ≡ min b r → share ≡ b → min least a ≡ whole → min next r ≡ whole
       by a b r f g h = omega (arith, f, g, h, step)
 
-  pub least_no : (x : ColRef) (below : Bool) (es : List Cond) (n least whole : ℕ) (e : Cond) → n < length es → e ≡ condition_at es n → is_bound_at x below (bound_of e) ≡ false →
+  pub least_no : (x : ColRef) (below : Bool) (es : List Cond) (n least whole : ℕ) (e : Cond) → n < length es → e ≡ listed_condition es n → is_bound_at x below (bound_of e) ≡ false →
       min least (least_bound c range x below (drop n es)) ≡ whole → min least (least_bound c range x below (drop (n + 1) es)) ≡ whole
   least_no x below es n least whole e lt same test all = subst (λ a. min least a ≡ whole) (least-at x below es n e false lt same test) all
 
@@ -182,9 +182,9 @@ module _ (c : Contents) (range : Range) (lawful : IsLawful c) (tables : AreTable
 
   -- what a condition multiplies with as one end of a range is at most all rows
   pub range_weight_most : (es : List Cond) (n w : ℕ) → All (HasColumns c range) es → range_weight c range es n ≡ Some w → w ≤ ALL_ROWS
-  range_weight_most es n w h e = by (bound_of (condition_at es n)) e
+  range_weight_most es n w h e = by (bound_of (listed_condition es n)) e
     where
-      by : (o : Option Bound) → end_weight c range es (take n es) o ≡ Some w → w ≤ ALL_ROWS
+      by : (o : Option ColumnBound) → end_weight c range es (take n es) o ≡ Some w → w ≤ ALL_ROWS
       by None f = cc
       by (Some (x, below)) f = end-most x below es (take n es) w h f
 

@@ -8,7 +8,7 @@ use Rattle.cost_rules.specs.Costs.{IsEstimate}
 use Rattle.cost_rules.specs.Scans.{heap_pages_of, leaves_cost, run_cost}
 use Rattle.cost_rules.specs.declared.parameters.TheConstants.{RANDOM_PAGE}
 use Rattle.cost_rules.proofs.RisingLemmas.{ceil-least, once-at_least}
-use Rattle.path_cost.specs.Estimates.{numbers_from, relations, set_rows}
+use Rattle.path_cost.specs.Estimates.{set_numbers_from, relations, set_rows}
 use Rattle.path_cost.specs.Runs.{least_or_one, lesser_with, runs}
 use Rattle.path_cost.proofs.NumberLemmas.{numbers-at}
 
@@ -24,7 +24,7 @@ least-more (Some m) n ns = refl
 module _ (c : Contents) (range : Range) (t : ClassTable) (set : Set) where
   -- the rows of the relations of a set from a number on, each alone
   abbrev pub alone-from : ℕ → List ℕ
-  alone-from n = map (λ q. set_rows c range t (one q)) (numbers_from n (length range - n) set)
+  alone-from n = map (λ q. set_rows c range t (one q)) (set_numbers_from n (length range - n) set)
 
   pub least-yes : (n rows : ℕ) (old new : Option ℕ) (whole : ℕ) → n < length range → set n ≡ true → rows ≡ set_rows c range t (one n) → new ≡ Some (lesser_with old rows) → least_with old (alone-from n) ≡ whole → least_with new (alone-from (n + 1)) ≡ whole
   least-yes n rows old new whole lt e f g h =
@@ -41,7 +41,7 @@ module _ (c : Contents) (range : Range) (t : ClassTable) (set : Set) where
 
   pub least-all : (n : ℕ) (o : Option ℕ) (whole : ℕ) → length range ≤ n → least_with o (alone-from n) ≡ whole → least_with o [] ≡ whole
   least-all n o whole past h =
-      ap (λ len. least_with o (map (λ q. set_rows c range t (one q)) (numbers_from n len set))) (let none : 0 ≡ length range - n = omega (arith, past) in none) ∙ h
+      ap (λ len. least_with o (map (λ q. set_rows c range t (one q)) (set_numbers_from n len set))) (let none : 0 ≡ length range - n = omega (arith, past) in none) ∙ h
 
 -- the lesser of two estimates is one
 pub lesser-estimate : (o : Option ℕ) (n : ℕ) → IfSome o IsEstimate → IsEstimate n → IsEstimate (lesser_with o n)

@@ -24,8 +24,8 @@ use Rattle.cost_rules.specs.Scans.{fetch_cost, heap_pages_of, leaves_cost, page_
 use Rattle.cost_rules.proofs.PowerLemmas.{few-doublings, log-least}
 use Rattle.cost_rules.proofs.RisingLemmas.{ceil-least}
 use Rattle.path_cost.specs.Columns.{AreTables}
-use Rattle.path_cost.specs.Costs.{arm_part, bitmap_cost, descent, descent_by, found, index_cost, index_part, local_operators, operators, other_operators, rows_after, seq_cost}
-use Rattle.path_cost.specs.Estimates.{conditions_from, conditions_where, entries, entries_by, kept_among, numbers_from, picked_from, table_pages, table_rows}
+use Rattle.path_cost.specs.Costs.{arm_part, bitmap_cost, descent, descent_by, index_rows_found, index_cost, index_part, local_operators, operators, other_operators, rows_after, seq_cost}
+use Rattle.path_cost.specs.Estimates.{conditions_from, conditions_where, entry_estimate, entries_by, kept_among, set_numbers_from, picked_from, table_pages, table_rows}
 use Rattle.path_cost.specs.Limits.{AreWithinLimits, HasColumns}
 use Rattle.path_cost.specs.Ranges.{conditions}
 use Rattle.path_cost.specs.Runs.{runs}
@@ -116,7 +116,7 @@ module _ (c : Contents) (range : Range) (t : ClassTable) (h : AreWithinLimits c 
       sum : (x y : ℕ) → x ≤ 10 ^ 9 → y ≤ 10 ^ 9 * 1028 → x * 400 + y ≤ 2 * 10 ^ 12
       sum x y h k = omega (arith, h, k)
 
-  entries-few : (i : IndexNo) → IsIndex c i → (1 ≤ entries c i) × (entries c i ≤ 10 ^ 9)
+  entries-few : (i : IndexNo) → IsIndex c i → (1 ≤ entry_estimate c i) × (entry_estimate c i ≤ 10 ^ 9)
   entries-few i within = by (index_at c i).predicate refl
     where
       there : IsTable c (index_at c i).table
@@ -138,10 +138,10 @@ module _ (c : Contents) (range : Range) (t : ClassTable) (h : AreWithinLimits c 
           let kept = kept-share (rows_of c (index_at c i).table) (selectivity c (((index_at c i).table, []) ∷ []) p) (share-most c (((index_at c i).table, []) ∷ []) h.lawful alone p own) some in
           (kept.0, le_trans kept.1 few)
 
-  within-few : (p : Set) (i : IndexNo) (rows n : ℕ) → IsIndex c i → n ≤ 512 → part_cost (runs c range t p) (descent c i) (min (entries c i) rows) (entries c i) n ≤ 523 * 10 ^ 9
+  within-few : (p : Set) (i : IndexNo) (rows n : ℕ) → IsIndex c i → n ≤ 512 → part_cost (runs c range t p) (descent c i) (min (entry_estimate c i) rows) (entry_estimate c i) n ≤ 523 * 10 ^ 9
   within-few p i rows n within conditions =
       let all = entries-few i within in
-      part-few (runs c range t p) (descent c i) (min (entries c i) rows) (entries c i) n (runs-some c range t p) (descent-few (index_at c i).method (entries c i) all.1) all.0 (least (entries c i) rows) all.1 conditions
+      part-few (runs c range t p) (descent c i) (min (entry_estimate c i) rows) (entry_estimate c i) n (runs-some c range t p) (descent-few (index_at c i).method (entry_estimate c i) all.1) all.0 (least (entry_estimate c i) rows) all.1 conditions
     where
       least : (x y : ℕ) → min x y ≤ x
       least x y = omega arith
@@ -158,16 +158,16 @@ module _ (c : Contents) (range : Range) (t : ClassTable) (h : AreWithinLimits c 
   pub index-few : (i : IndexNo) (r : ℕ) (p : Set) (bounds conditions : ℕ → Bool) (only : Bool) → r < length range → IsIndex c i → (index_cost c range t i r p bounds conditions only).total ≤ 4 * 10 ^ 12
   index-few i r p bounds conditions only within is =
       let all = entries-few i is in
-      let work = work-few (found c range t i r conditions) (other_operators c range t r p conditions) (le_trans (least (entries c i) (rows_after c range t r conditions)) all.1)
+      let work = work-few (index_rows_found c range t i r conditions) (other_operators c range t r p conditions) (le_trans (least (entry_estimate c i) (rows_after c range t r conditions)) all.1)
       (le_trans (picked-operators 0 _ (map (λ (k : Clause). k.cond) t.clauses)) h.operators) in
-      sum (index_part c range t i r p bounds conditions) (fetch_cost (runs c range t p) only (found c range t i r conditions) (table_pages c range r)) _ (index-part-few i r p bounds conditions is) (fetched only) work
+      sum (index_part c range t i r p bounds conditions) (fetch_cost (runs c range t p) only (index_rows_found c range t i r conditions) (table_pages c range r)) _ (index-part-few i r p bounds conditions is) (fetched only) work
     where
       least : (x y : ℕ) → min x y ≤ x
       least x y = omega arith
 
-      fetched : (o : Bool) → fetch_cost (runs c range t p) o (found c range t i r conditions) (table_pages c range r) ≤ 10 ^ 9 * 1600
+      fetched : (o : Bool) → fetch_cost (runs c range t p) o (index_rows_found c range t i r conditions) (table_pages c range r) ≤ 10 ^ 9 * 1600
       fetched true = omega arith
-      fetched false = le_trans (run-least (runs c range t p) (found c range t i r conditions) (table_pages c range r) RANDOM_PAGE (runs-some c range t p)) (mul-le-mul_right RANDOM_PAGE (heap-pages-few r within))
+      fetched false = le_trans (run-least (runs c range t p) (index_rows_found c range t i r conditions) (table_pages c range r) RANDOM_PAGE (runs-some c range t p)) (mul-le-mul_right RANDOM_PAGE (heap-pages-few r within))
 
       sum : (x y z : ℕ) → x ≤ 523 * 10 ^ 9 → y ≤ 10 ^ 9 * 1600 → z ≤ 10 ^ 9 * 1028 → x + y + z ≤ 4 * 10 ^ 12
       sum x y z k l m = omega (arith, k, l, m)
@@ -175,7 +175,7 @@ module _ (c : Contents) (range : Range) (t : ClassTable) (h : AreWithinLimits c 
   pub bitmap-few : (r : ℕ) (p : Set) (used : ℕ → Bool) (parts : ℕ) → r < length range → (bitmap_cost c range t r p used parts).total ≤ parts + 3 * 10 ^ 12
   bitmap-few r p used parts within =
       let rows = rows_after c range t r used in
-      let few = kept-most c range h.lawful h.tables (table_rows c range r) (conditions t) (numbers_from 0 (length t.clauses) used) (All-map (HasColumns c range) (λ (k : Clause). k.cond) t.clauses h.columns) (rows-few r within).0 in
+      let few = kept-most c range h.lawful h.tables (table_rows c range r) (conditions t) (set_numbers_from 0 (length t.clauses) used) (All-map (HasColumns c range) (λ (k : Clause). k.cond) t.clauses h.columns) (rows-few r within).0 in
       let page = page_in_order (heap_pages_of rows (table_pages c range r)) (table_pages c range r) in
       let read : run_cost (runs c range t p) rows (table_pages c range r) page ≤ 10 ^ 9 * 1600 =
       le_trans (run-least (runs c range t p) rows (table_pages c range r) page (runs-some c range t p))

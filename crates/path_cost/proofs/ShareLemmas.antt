@@ -16,7 +16,7 @@ use Rattle.path_cost.specs.declared.shares.TheConstants.{ALL_ROWS, THIRD, UNKNOW
 use Rattle.path_cost.specs.declared.known.Known.{Known}
 use Rattle.path_cost.specs.Known.{IsLawfulKnown, statistics_of}
 use Rattle.path_cost.proofs.PlaceLemmas.{met-most, part_fits, quotient-most}
-use Rattle.path_cost.specs.Selectivity.{holds, valued, uncommon, equal_by, equal_to, bounds_passed, met_of, place, by_histogram, shares_met, inequality, column_literal, equal_columns, two_columns, all_or_none, null_by, and_share, or_share}
+use Rattle.path_cost.specs.Selectivity.{comparison_holds, valued, uncommon, equal_by, equal_share, bounds_passed, met_of, place, by_histogram, shares_met, inequality, column_literal, equal_columns, two_columns, all_or_none, null_by, and_share, or_share}
 
 thousand : (n : ℕ) → n ≤ 10 ^ 6 → PER_SHARE * n ≤ 10 ^ 9
 thousand n h = omega (arith, h)
@@ -67,8 +67,8 @@ module _ (t : SqlType) (s : Statistics) (h : IsLawfulStatistics t s) where
   equal-by-most None e = part-most (PER_SHARE * uncommon s) (max 1 (s.distinct - length s.common)) ALL_ROWS (thousand (uncommon s) (uncommon-most s))
   equal-by-most (Some n) e = thousand n (omega (arith, e n refl, h.whole))
 
-  equal-to-most : (v : Value) → equal_to s v ≤ ALL_ROWS
-  equal-to-most v = equal-by-most (option_map (λ (p : Common). p.1) (find (λ (p : Common). holds Eq p.0 v) s.common)) (share-most (λ (p : Common). holds Eq p.0 v) s.common)
+  equal-to-most : (v : Value) → equal_share s v ≤ ALL_ROWS
+  equal-to-most v = equal-by-most (option_map (λ (p : Common). p.1) (find (λ (p : Common). comparison_holds Eq p.0 v) s.common)) (share-most (λ (p : Common). comparison_holds Eq p.0 v) s.common)
 
 columns-most : (s t : Statistics) → 1 ≤ s.distinct → equal_columns s t ≤ ALL_ROWS
 columns-most s t some =

@@ -16,9 +16,9 @@ use Rattle.catalog.specs.Contents.{Contents, IsLawful}
 use Rattle.catalog.specs.Range.{Range, column_at, table_of, type_in}
 use Rattle.eq_classes.specs.Classes.{listed}
 use Rattle.path_cost.specs.declared.shares.TheConstants.{ALL_ROWS}
-use Rattle.path_cost.specs.Columns.{AreTables, is_column_in, known, stats_of}
+use Rattle.path_cost.specs.Columns.{AreTables, is_column_in, known_statistics, stats_of}
 use Rattle.path_cost.specs.Limits.{HasColumns, HaveColumns}
-use Rattle.path_cost.specs.Ranges.{condition_at}
+use Rattle.path_cost.specs.Ranges.{listed_condition}
 use Rattle.path_cost.specs.Selectivity.{and_share, of_all, of_any, of_column_and, of_comparison, of_null, or_share, range_weight, selectivity, weight, weight_or}
 use Rattle.path_cost.proofs.ColumnLemmas.{column_laws, nulls_most}
 use Rattle.path_cost.proofs.LimitLemmas.{known-lawful}
@@ -39,7 +39,7 @@ module _ (c : Contents) (range : Range) where
   have-columns : (es : Conds) → HaveColumns c range es → All (HasColumns c range) (listed es)
   have-columns es h = All-from_recursion (HasColumns c range) (listed es) (have-each es h)
 
-  has-columns-at : (es : List Cond) (n : ℕ) → All (HasColumns c range) es → HasColumns c range (condition_at es n)
+  has-columns-at : (es : List Cond) (n : ℕ) → All (HasColumns c range) es → HasColumns c range (listed_condition es n)
   has-columns-at [] zero h = refl
   has-columns-at [] (suc n) h = refl
   has-columns-at (e ∷ es) zero h = All-head (HasColumns c range) e es h
@@ -59,7 +59,7 @@ module _ (c : Contents) (range : Range) (lawful : IsLawful c) (tables : AreTable
   compared-most op (Lit v) (Lit w) h k = all-most _
 
   null-share-most : (x : ColRef) → IsTrue (is_column_in c range x) → of_null c range x ≤ ALL_ROWS
-  null-share-most x h = null-most (column_at c range x) (known c range x) (λ s e. nulls_most c (table_of range x) x.col s lawful (column_laws c range x tables h).1 e)
+  null-share-most x h = null-most (column_at c range x) (known_statistics c range x) (λ s e. nulls_most c (table_of range x) x.col s lawful (column_laws c range x tables h).1 e)
 
   own-or-end : (es : List Cond) (n own : ℕ) → All (HasColumns c range) es → own ≤ ALL_ROWS → weight_or (range_weight c range es n) own ≤ ALL_ROWS
   own-or-end es n own h most = weight-or-most (range_weight c range es n) own (λ w e. range_weight_most c range lawful tables es n w h e) most
@@ -91,4 +91,4 @@ module _ (c : Contents) (range : Range) (lawful : IsLawful c) (tables : AreTable
         any-shares-most es (or_share a (selectivity c range e)) both.1 (or_most a (selectivity c range e) most (share-most e both.0))
 
   pub weight-most : (es : List Cond) (n : ℕ) → All (HasColumns c range) es → weight c range es n ≤ ALL_ROWS
-  weight-most es n h = own-or-end es n (selectivity c range (condition_at es n)) h (share-most (condition_at es n) (has-columns-at c range es n h))
+  weight-most es n h = own-or-end es n (selectivity c range (listed_condition es n)) h (share-most (listed_condition es n) (has-columns-at c range es n h))

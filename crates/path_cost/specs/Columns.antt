@@ -31,12 +31,12 @@ abbrev pub AreOver : Contents → Range → List Expr → Type 0
 AreOver c range es = All (λ (e : Expr). IsOver c range (view.cond e)) es
 
 -- what is known of a column; without statistics it has at most 200 different values, and no NULLs
-abbrev pub known : Contents → Range → ColRef → Option Statistics
-known c range x = stats_at c (table_of range x) x.col
+abbrev pub known_statistics : Contents → Range → ColRef → Option Statistics
+known_statistics c range x = stats_at c (table_of range x) x.col
 
 -- the share of a column's NULLs, where statistics say it
 abbrev pub nulls_known : Contents → Range → ColRef → Option ℕ
-nulls_known c range x = option_map (λ s. s.nulls) (known c range x)
+nulls_known c range x = option_map (λ s. s.nulls) (known_statistics c range x)
 
 -- statistics, or what is taken in their place in a table of so many rows: 200 different values (DEFAULT_NUM_DISTINCT), or
 -- one for each row where there are fewer, and no NULLs
@@ -46,4 +46,4 @@ stats_or rows (Some s) = s
 
 -- what is taken to be known of a column of the query, by the statistics and the rows of its table
 abbrev pub stats_of : Contents → Range → ColRef → Statistics
-stats_of c range x = stats_or (rows_of c (table_of range x)) (known c range x)
+stats_of c range x = stats_or (rows_of c (table_of range x)) (known_statistics c range x)

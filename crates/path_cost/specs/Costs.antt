@@ -11,11 +11,11 @@ use Rattle.catalog.specs.Contents.{Contents, index_at}
 use Rattle.catalog.specs.Range.{Range}
 use Rattle.eq_classes.specs.Clauses.{Set, ClassTable}
 use Rattle.eq_classes.specs.Listing.{clause_at}
-use Rattle.eq_classes.specs.Parts.{is_base}
+use Rattle.eq_classes.specs.Parts.{is_base, is_local}
 use Rattle.cost_rules.specs.declared.pair.Pair.{Pair}
 use Rattle.cost_rules.specs.declared.parameters.TheConstants.{HASH_DESCENT}
 use Rattle.cost_rules.specs.Scans.{descent_of, part_cost, index_scan_cost, seq_scan_cost, bitmap_scan_cost}
-use Rattle.path_cost.specs.Estimates.{conditions_from, conditions_where, entries, is_local, kept_among, kept_by, table_pages, table_rows}
+use Rattle.path_cost.specs.Estimates.{conditions_from, conditions_where, entry_estimate, kept_among, kept_by, table_pages, table_rows}
 use Rattle.path_cost.specs.Runs.{runs}
 
 -- the operators of conditions: their atoms together
@@ -30,16 +30,12 @@ descent_by Hash n = HASH_DESCENT
 
 -- the way down an index of the catalogue, in 1/400 of a sequential page: what an index scan costs before its first row
 abbrev pub descent : Contents → IndexNo → ℕ
-descent c i = descent_by (index_at c i).method (entries c i)
+descent c i = descent_by (index_at c i).method (entry_estimate c i)
 
--- the entries that a scan of an index looks at: those that meet its bounds, of so many rows, and no more than there are
-abbrev pub touched : Contents → IndexNo → ℕ → ℕ
-touched c i within = min (entries c i) within
-
--- an index's own part in one of so many runs, where so many rows meet its bounds, and so many conditions are made on each
--- entry
+-- an index's own part in one of so many runs, where so many rows meet its bounds, so that it looks at as many entries, but at no
+-- more than there are, and so many conditions are made on each entry
 abbrev pub part_within : Contents → ℕ → IndexNo → ℕ → ℕ → ℕ
-part_within c runs i within n = part_cost runs (descent c i) (touched c i within) (entries c i) n
+part_within c runs i within n = part_cost runs (descent c i) (min (entry_estimate c i) within) (entry_estimate c i) n
 
 module _ (c : Contents) (range : Range) (t : ClassTable) where
   -- the operators of a relation's clauses, with those of its parameterisation
@@ -69,14 +65,14 @@ module _ (c : Contents) (range : Range) (t : ClassTable) where
   arm_part i r p parts bounds = part_within c (runs c range t p) i (kept_among c range (table_rows c range r) bounds parts) (length parts)
 
   -- the rows that a scan of an index finds: the entries that meet its conditions
-  abbrev pub found : IndexNo → ℕ → (ℕ → Bool) → ℕ
-  found i r conditions = min (entries c i) (rows_after r conditions)
+  abbrev pub index_rows_found : IndexNo → ℕ → (ℕ → Bool) → ℕ
+  index_rows_found i r conditions = min (entry_estimate c i) (rows_after r conditions)
 
   -- an index scan: the index's part, the heap pages of the rows found, none where it is index-only, and each of these
   -- rows with the clauses that are no conditions
   abbrev pub index_cost : IndexNo → ℕ → Set → (ℕ → Bool) → (ℕ → Bool) → Bool → Pair
   index_cost i r p bounds conditions only =
-      index_scan_cost (runs c range t p) (descent c i) (index_part i r p bounds conditions) only (found i r conditions) (table_pages c range r) (other_operators r p conditions)
+      index_scan_cost (runs c range t p) (descent c i) (index_part i r p bounds conditions) only (index_rows_found i r conditions) (table_pages c range r) (other_operators r p conditions)
 
   -- a bitmap scan over the parts of its indexes: the rows are those after the clauses that it uses, and each is tested by
   -- all clauses of the relation and of the parameterisation

@@ -11,7 +11,7 @@ use Rattle.catalog.specs.Range.{Range, relation_at}
 use Rattle.catalog.specs.Tables.{rows_of, pages_of}
 use Rattle.eq_classes.specs.Clauses.{Clause, Set, ClassTable}
 use Rattle.eq_classes.specs.Listing.{pair_class_of, clause_at}
-use Rattle.eq_classes.specs.Parts.{is_all, is_base, is_join, is_param}
+use Rattle.eq_classes.specs.Parts.{is_all, is_join, is_local}
 use Rattle.cost_rules.specs.Powers.{clamped}
 use Rattle.exact_rows.specs.Rows.{share_kept}
 use Rattle.path_cost.specs.Ranges.{conditions}
@@ -30,10 +30,6 @@ picked_from n chosen (e ∷ es) = cond (chosen n) (e ∷ picked_from (n + 1) cho
 -- the conditions of the clauses of a set of numbers, by their numbers; the first clause of the list has the number given
 abbrev pub conditions_from : ℕ → (ℕ → Bool) → List Clause → List Cond
 conditions_from n chosen clauses = picked_from n chosen (map (λ (k : Clause). k.cond) clauses)
-
--- a clause is over a relation alone, or one that it tests with the relations of a parameterisation
-abbrev pub is_local : ℕ → Set → Clause → Bool
-is_local r p k = is_base r k || is_param r p k
 
 -- a clause is the pair clause of a class of a list
 abbrev pub is_pair_by : Option ℕ → List ℕ → Bool
@@ -61,12 +57,12 @@ abbrev pub either_but : List ℕ → List ℕ → List ℕ → ℕ → Bool
 either_but a b c n = either a b n && not (contains c n)
 
 -- the numbers of a set from a number on, of so many, in order
-abbrev pub numbers_from : ℕ → ℕ → (ℕ → Bool) → List ℕ
-numbers_from n len set = filter set (range_with_len n len)
+abbrev pub set_numbers_from : ℕ → ℕ → (ℕ → Bool) → List ℕ
+set_numbers_from n len set = filter set (range_with_len n len)
 
 -- the numbers of a set's relations, in FROM order
 abbrev pub relations : Range → Set → List ℕ
-relations range set = numbers_from 0 (length range) set
+relations range set = set_numbers_from 0 (length range) set
 
 -- a number is that of a clause that passes a test
 abbrev pub is_number_where : (Clause → Bool) → ClassTable → ℕ → Bool
@@ -89,7 +85,7 @@ module _ (c : Contents) (range : Range) where
   -- what the clauses of a set of numbers leave of so many rows: a clause's share is taken from all clauses of the query,
   -- which comes to the same as from those of the set, since each set that is folded has all bounds of a column or none
   abbrev pub kept_by : ℕ → (ℕ → Bool) → ClassTable → ℕ
-  kept_by n chosen t = kept n (weights c range (conditions t) (numbers_from 0 (length t.clauses) chosen))
+  kept_by n chosen t = kept n (weights c range (conditions t) (set_numbers_from 0 (length t.clauses) chosen))
 
   -- what the clauses that pass a test leave of so many rows
   abbrev pub kept_where : ℕ → (Clause → Bool) → ClassTable → ℕ
@@ -97,7 +93,7 @@ module _ (c : Contents) (range : Range) where
 
   -- what those of some conditions that have a number of a set leave of so many rows
   abbrev pub kept_among : ℕ → (ℕ → Bool) → List Cond → ℕ
-  kept_among n chosen es = kept n (weights c range es (numbers_from 0 (length es) chosen))
+  kept_among n chosen es = kept n (weights c range es (set_numbers_from 0 (length es) chosen))
 
   -- the rows of a product of relations, after some rows
   abbrev pub product_from : ℕ → List ℕ → ℕ
@@ -130,5 +126,5 @@ entries_by c x None = rows_of c x.table
 entries_by c x (Some predicate) = kept (rows_of c x.table) (selectivity c ((x.table, []) ∷ []) predicate ∷ [])
 
 -- the entries that an index of the catalogue is taken to have (reltuples of the index in pg_class)
-abbrev pub entries : Contents → IndexNo → ℕ
-entries c i = entries_by c (index_at c i) (index_at c i).predicate
+abbrev pub entry_estimate : Contents → IndexNo → ℕ
+entry_estimate c i = entries_by c (index_at c i) (index_at c i).predicate

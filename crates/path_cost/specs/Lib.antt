@@ -8,4 +8,3 @@ pub mod Runs
 pub mod Costs
 pub mod Cut
 pub mod Limits
-pub mod NumberTables

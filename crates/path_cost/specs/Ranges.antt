@@ -26,33 +26,33 @@ conditions_of (Parts es) = map view.cond es.now
 conditions_of (Clauses t) = conditions t.now
 
 -- the condition of a number of a list, the first being 0
-abbrev pub condition_at : List Cond → ℕ → Cond
-condition_at es n = slice_index_or es n (const True)
+abbrev pub listed_condition : List Cond → ℕ → Cond
+listed_condition es n = slice_index_or es n (const True)
 
 -- a bound of a column: the column, and whether it is from below
-abbrev pub Bound : Type 0
-Bound = ColRef × Bool
+abbrev pub ColumnBound : Type 0
+ColumnBound = ColRef × Bool
 
 -- what an operator with a literal behind it is to a column: a bound from below, one from above, or none
-abbrev pub side_of : Op → ColRef → Option Bound
-side_of Gt x = Some (x, true)
-side_of Ge x = Some (x, true)
-side_of Lt x = Some (x, false)
-side_of Le x = Some (x, false)
-side_of _ x = None
+abbrev pub bounded_side : Op → ColRef → Option ColumnBound
+bounded_side Gt x = Some (x, true)
+bounded_side Ge x = Some (x, true)
+bounded_side Lt x = Some (x, false)
+bounded_side Le x = Some (x, false)
+bounded_side _ x = None
 
 -- what an operator with a literal behind it is to a column, by the literal: NULL bounds nothing
-abbrev pub bound_by : Op → ColRef → Value → Option Bound
-bound_by op x Null = None
-bound_by op x v = side_of op x
+abbrev pub bound_by_literal : Op → ColRef → Value → Option ColumnBound
+bound_by_literal op x Null = None
+bound_by_literal op x v = bounded_side op x
 
 -- the bound that a comparison in pushed form is
-abbrev pub bound_between : Op → Operand → Operand → Option Bound
-bound_between op (Col x) (Lit v) = bound_by op x v
+abbrev pub bound_between : Op → Operand → Operand → Option ColumnBound
+bound_between op (Col x) (Lit v) = bound_by_literal op x v
 bound_between op l r = None
 
 -- the bound that a condition is, if it is one
-abbrev pub bound_of : Cond → Option Bound
+abbrev pub bound_of : Cond → Option ColumnBound
 bound_of (compare op l r) = bound_between op l r
 bound_of _ = None
 
@@ -62,7 +62,7 @@ is_side true b = b
 is_side false b = not b
 
 -- a bound is one of a column from a side
-abbrev pub is_bound_at : ColRef → Bool → Option Bound → Bool
+abbrev pub is_bound_at : ColRef → Bool → Option ColumnBound → Bool
 is_bound_at x below None = false
 is_bound_at x below (Some (y, b)) = is_column x y && is_side below b
 

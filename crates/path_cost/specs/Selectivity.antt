@@ -18,14 +18,14 @@ use Rattle.catalog.specs.Range.{Range, column_at}
 use Rattle.catalog.specs.Statistics.{Common, Statistics, bound_at, shares}
 use Rattle.catalog.specs.declared.limits.TheConstants.{WHOLE_SHARE}
 use Rattle.path_cost.specs.declared.shares.TheConstants.{ALL_ROWS, THIRD, HALF, UNKNOWN_NULLS, PER_SHARE}
-use Rattle.path_cost.specs.Columns.{known, stats_of}
-use Rattle.path_cost.specs.Ranges.{Bound, bound_of, both_ends, condition_at, has_bound, has_end, is_bound_at}
+use Rattle.path_cost.specs.Columns.{known_statistics, stats_of}
+use Rattle.path_cost.specs.Ranges.{ColumnBound, bound_of, both_ends, listed_condition, has_bound, has_end, is_bound_at}
 use Rattle.eq_classes.specs.Classes.{listed}
 use Rattle.pg_expr.specs.declared.expr.Expr.{Expr}
 
 -- a comparison of two values is True
-abbrev pub holds : Op → Value → Value → Bool
-holds op a b = is_true (truth_of_op op a b)
+abbrev pub comparison_holds : Op → Value → Value → Bool
+comparison_holds op a b = is_true (truth_of_op op a b)
 
 -- the share of rows without NULL, and that of neither NULL nor a common value, in parts per million
 abbrev pub valued : Statistics → ℕ
@@ -42,11 +42,11 @@ equal_by s None = PER_SHARE * uncommon s / max 1 (s.distinct - length s.common)
 
 -- the share of the common value that equals a literal, where one does
 abbrev pub share_among : List Common → Value → Option ℕ
-share_among common v = option_map (λ (p : Common). p.1) (find (λ (p : Common). holds Eq p.0 v) common)
+share_among common v = option_map (λ (p : Common). p.1) (find (λ (p : Common). comparison_holds Eq p.0 v) common)
 
 -- column = literal in parts per 10^9, the literal looked for among the common values (var_eq_const)
-abbrev pub equal_to : Statistics → Value → ℕ
-equal_to s v = equal_by s (share_among s.common v)
+abbrev pub equal_share : Statistics → Value → ℕ
+equal_share s v = equal_by s (share_among s.common v)
 
 -- how many bounds a literal has below it, for < and >=, or not above it, for <= and >
 abbrev pub passing : Op → Op
@@ -56,7 +56,7 @@ passing _ = Le
 
 -- at how many bounds of a histogram a comparison of the bound with the literal is True
 abbrev pub count_holding : Op → List Value → Value → ℕ
-count_holding op histogram v = count_by (λ b. holds op b v) histogram
+count_holding op histogram v = count_by (λ b. comparison_holds op b v) histogram
 
 -- how many bounds of a histogram stand below a literal, or not above it, as its operator counts them
 abbrev pub bounds_passed : Op → List Value → Value → ℕ
@@ -74,13 +74,13 @@ apart a b = unsigned_abs (b -ℤ a)
 
 -- how wide the step between two bounds is, and twice the way to a literal in it: half a step in a column whose values are
 -- no whole numbers
-abbrev pub step_of : Op → Value → Value → Value → ℕ × ℕ
-step_of op (Int a) (Int b) (Int v) = (apart a b, twice_up op (apart a v))
-step_of op a b v = (1, 1)
+abbrev pub histogram_step : Op → Value → Value → Value → ℕ × ℕ
+histogram_step op (Int a) (Int b) (Int v) = (apart a b, twice_up op (apart a v))
+histogram_step op a b v = (1, 1)
 
 -- parts of a whole before a literal in the step behind j of k bounds, by the step's width and twice the way in it
-abbrev pub place_in : ℕ → ℕ → ℕ × ℕ → ℕ × ℕ
-place_in k j step = ((2 * j - 2) * step.0 + step.1, 2 * (k - 1) * step.0)
+abbrev pub part_below_literal : ℕ → ℕ → ℕ × ℕ → ℕ × ℕ
+part_below_literal k j step = ((2 * j - 2) * step.0 + step.1, 2 * (k - 1) * step.0)
 
 -- parts of a whole before a literal that passes j bounds of a histogram: none, all, or to its place in a step, linear
 -- between the two bounds
@@ -88,7 +88,7 @@ abbrev pub place : Op → Statistics → Value → ℕ → ℕ × ℕ
 place op s v j =
     let k = length s.histogram in
     cond (nat_eq j 0) (0, 2 * (k - 1))
-    (cond (nat_eq j k) (2 * (k - 1), 2 * (k - 1)) (place_in k j (step_of op (bound_at s (j - 1)) (bound_at s j) v)))
+    (cond (nat_eq j k) (2 * (k - 1), 2 * (k - 1)) (part_below_literal k j (histogram_step op (bound_at s (j - 1)) (bound_at s j) v)))
 
 -- the parts at which a comparison holds: those before the literal for < and <=, those behind it for > and >=
 abbrev pub met_of : Op → ℕ × ℕ → ℕ
@@ -98,7 +98,7 @@ met_of _ p = p.1 - p.0
 
 -- the shares of the common values that meet a comparison
 abbrev pub shares_met : Op → List Common → Value → ℕ
-shares_met op common v = sum_by (λ (p : Common). cond (holds op p.0 v) p.1 0) common
+shares_met op common v = sum_by (λ (p : Common). cond (comparison_holds op p.0 v) p.1 0) common
 
 -- an inequality by the histogram: the common values that meet it, and a part of the others
 abbrev pub by_histogram : Op → Statistics → Value → ℕ
@@ -112,9 +112,9 @@ inequality op s v = cond (nat_eq (length s.histogram) 0) THIRD (by_histogram op 
 
 -- a column and a literal that is not NULL
 abbrev pub column_literal : Op → Statistics → Value → ℕ
-column_literal Eq s v = equal_to s v
+column_literal Eq s v = equal_share s v
 column_literal AbsEq s v = PER_SHARE * valued s / s.distinct
-column_literal Ne s v = PER_SHARE * valued s - equal_to s v
+column_literal Ne s v = PER_SHARE * valued s - equal_share s v
 column_literal Lt s v = inequality Lt s v
 column_literal Le s v = inequality Le s v
 column_literal Ge s v = inequality Ge s v
@@ -174,11 +174,11 @@ module _ (c : Contents) (range : Range) where
   of_comparison op (Col x) (Col y) = two_columns op (stats_of c range x) (stats_of c range y)
   of_comparison op (Col x) (Lit v) = of_column_and op x v
   of_comparison op (Lit v) (Col x) = of_column_and (commutator_of op) x v
-  of_comparison op (Lit v) (Lit w) = all_or_none (holds op v w)
+  of_comparison op (Lit v) (Lit w) = all_or_none (comparison_holds op v w)
 
   -- IS NULL of a column of the query, by its declaration and its statistics
   abbrev pub of_null : ColRef → ℕ
-  of_null x = null_by (column_at c range x) (known c range x)
+  of_null x = null_by (column_at c range x) (known_statistics c range x)
 
   -- the share of a bound
   abbrev pub bound_share : Cond → ℕ
@@ -196,14 +196,14 @@ module _ (c : Contents) (range : Range) where
 
   -- what a bound multiplies with in a list that bounds its column from both sides: the share of the range, and all rows where
   -- one of these bounds stands before it
-  abbrev pub end_weight : List Cond → List Cond → Option Bound → Option ℕ
+  abbrev pub end_weight : List Cond → List Cond → Option ColumnBound → Option ℕ
   end_weight es before None = None
   end_weight es before (Some (x, below)) =
       cond (is_ranged (stats_of c range x) x es) (Some (cond (has_end x before) ALL_ROWS (column_range x es))) None
 
   -- what the condition of a number of a list multiplies with as one end of a range, if it is one
   abbrev pub range_weight : List Cond → ℕ → Option ℕ
-  range_weight es n = end_weight es (take n es) (bound_of (condition_at es n))
+  range_weight es n = end_weight es (take n es) (bound_of (listed_condition es n))
 
   abbrev mutual
     -- the share of rows at which a condition is True, in parts per 10^9; conditions are taken as independent but for the
@@ -238,7 +238,7 @@ module _ (c : Contents) (range : Range) where
 
   -- what the condition of a number of a list multiplies with
   abbrev pub weight : List Cond → ℕ → ℕ
-  weight es n = weight_or (range_weight es n) (selectivity (condition_at es n))
+  weight es n = weight_or (range_weight es n) (selectivity (listed_condition es n))
 
   -- what those of some numbers multiply with
   abbrev pub weights : List Cond → List ℕ → List ℕ

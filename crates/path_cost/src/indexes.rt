@@ -13,9 +13,9 @@ ghost use Rattle.cost_rules.specs.declared.parameters.TheConstants.{MOST_COST};
 ghost use Rattle.cost_rules.specs.Costs.{IsCost, IsEstimate};
 ghost use Rattle.path_cost.specs.Columns.{AreTables, IsOver, AreOver};
 ghost use Rattle.path_cost.specs.Costs as costs;
-ghost use Rattle.path_cost.specs.Estimates.{conditions_from, entries as entries_of, kept, kept_among};
+ghost use Rattle.path_cost.specs.Estimates.{conditions_from, entry_estimate as entries_of, kept, kept_among};
 ghost use Rattle.path_cost.specs.Cut.{own_part_cut, part_cut, arm_cut, scan_cut};
-ghost use Rattle.path_cost.specs.Costs.{found};
+ghost use Rattle.path_cost.specs.Costs.{index_rows_found};
 
 use crate::conditions::{share_of, weight};
 use crate::estimates::{after, relation_rows};
@@ -249,7 +249,7 @@ fn rows_found(
     requires clauses { All (λ (k : Clause). IsOver cat.now range.now k.cond) classes.now.clauses }
     requires relation { r.0 < length range.now }
     requires index { IsIndex cat.now i }
-    ensures rows { result ≡ found cat.now range.now classes.now i r.0 (contains conditions.now) }
+    ensures rows { result ≡ index_rows_found cat.now range.now classes.now i r.0 (contains conditions.now) }
     ensures estimate { IsEstimate result }
 {
     let rows = relation_rows(cat, range, r);

@@ -7,7 +7,7 @@ ghost use Rattle.path_cost.specs.Limits.{HasColumns};
 ghost use Rattle.pg_expr.specs.View as view;
 ghost use Rattle.path_cost.specs.Columns.{AreTables, IsOver, is_column_in, stats_of};
 ghost use Rattle.path_cost.specs.Ranges as ranges;
-ghost use Rattle.path_cost.specs.Ranges.{condition_at, conditions_of};
+ghost use Rattle.path_cost.specs.Ranges.{listed_condition, conditions_of};
 ghost use Rattle.path_cost.specs.Relations.{range_of};
 ghost use Rattle.path_cost.specs.Selectivity as sel;
 
@@ -42,7 +42,7 @@ impl<'a> Listing<'a> {
     #[tactic(auto, using(eq_classes::proofs::SearchLemmas::same_length, crate::proofs::ListingLemmas::clause_long, crate::proofs::ListingLemmas::part_is, crate::proofs::ListingLemmas::clause_is))]
     pub(crate) fn at(self, n: usize) -> &'a Expr
         requires { n < length (conditions_of self) }
-        ensures { view.cond result.now ≡ condition_at (conditions_of self.entry) n }
+        ensures { view.cond result.now ≡ listed_condition (conditions_of self.entry) n }
     {
         match self {
             Listing::Parts(parts) => &parts[n],
@@ -88,7 +88,7 @@ fn bound_with(op: Op, x: ColRef, r: &Operand) -> Option<(ColRef, bool)>
 }
 
 fn side_of(op: Op, x: ColRef) -> Option<(ColRef, bool)>
-    ensures { result ≡ ranges.side_of op x }
+    ensures { result ≡ ranges.bounded_side op x }
 {
     match op {
         Op::Gt | Op::Ge => Some((x, true)),

@@ -28,7 +28,7 @@ pub const UNKNOWN_NULLS: u64 = 5_000_000;
 /// Whether a comparison of two values is true.
 pub(crate) fn holds(op: Op, a: &Value, b: &Value) -> bool
     requires { AreComparable op a.now b.now }
-    ensures { result ≡ sel.holds op a.now b.now }
+    ensures { result ≡ sel.comparison_holds op a.now b.now }
 {
     apply(op, a, b) == Truth::True
 }
@@ -148,7 +148,7 @@ fn twice_up(op: Op, way: u128) -> u128
 
 /// How wide the step between two bounds is, and twice the way to a literal in it.
 fn step_of(op: Op, a: &Value, b: &Value, v: &Value) -> (u128, u128)
-    ensures value { result ≡ sel.step_of op a.now b.now v.now }
+    ensures value { result ≡ sel.histogram_step op a.now b.now v.now }
     ensures width { result.0 ≤ 2 ^ 64 - 1 }
     ensures way { result.1 ≤ 2 ^ 65 }
 {
@@ -167,7 +167,7 @@ fn place_in(k: u64, j: u64, step: (u128, u128)) -> (u128, u128)
     requires within { j < k }
     requires width { step.0 ≤ 2 ^ 64 - 1 }
     requires way { step.1 ≤ 2 ^ 65 }
-    ensures value { result ≡ sel.place_in k j step }
+    ensures value { result ≡ sel.part_below_literal k j step }
     ensures most { result.1 ≤ 2 ^ 72 }
 {
     let (k, j) = (u128::from(k), u128::from(j));
@@ -273,7 +273,7 @@ fn even_part(k: &Known) -> u64
 fn equal_to(k: &Known, v: &Value) -> u64
     requires lawful { IsLawfulKnown k.now }
     requires suits { SuitsColumn k.now v.now }
-    ensures { result ≡ sel.equal_to (statistics_of k.now) v.now }
+    ensures { result ≡ sel.equal_share (statistics_of k.now) v.now }
 {
     match common_share(k.common, v) {
         Some(share) => PER_SHARE * u64::from(share),

@@ -14,7 +14,7 @@ use Rattle.catalog.specs.opfamily_classes_Method_TheVariants.{Btree, Hash}
 use Rattle.eq_classes.specs.declared.classes.ClassNo.{ClassNo}
 use Rattle.eq_classes.specs.Clauses.{ClassTable}
 use Rattle.eq_classes.specs.Listing.{class_at}
-use Rattle.pathkeys.specs.Keys.{Keys, IsKeyList, ends, passes, gives, is_constant, has_direction, step_of, column_of, class_of_key, keys_from, keys_by}
+use Rattle.pathkeys.specs.Keys.{Keys, IsKeyList, ends, passes, gives, is_constant, has_direction, step_of, key_column, class_of_key, keys_from, keys_by}
 use Rattle.pathkeys.specs.Finding.{is_class, is_of_some, step_after, keys_after}
 use Rattle.pathkeys.proofs.OnceLemmas.{class_within}
 
@@ -45,7 +45,7 @@ module _ (t : ClassTable) (r : ℕ) (backward : Bool) where
 
   keys_fresh : (taken : Keys) (ks : List IndexKey) → IsFresh t taken (keys_from t r backward taken ks)
   keys_fresh taken [] = nothing_fresh taken
-  keys_fresh taken (k ∷ ks) = by (λ more. keys_fresh more ks) (class_of_key t r k) (class_within t (column_of r k) (key_family k))
+  keys_fresh taken (k ∷ ks) = by (λ more. keys_fresh more ks) (class_of_key t r k) (class_within t (key_column r k) (key_family k))
     where
       by_tests : ((more : Keys) → IsFresh t more (keys_from t r backward more ks)) → (n : ℕ) → n < length t.classes → (A B D : Bool) → is_constant t n ≡ A → list_any (nat_eq n) taken ≡ B
           → IsFresh t taken (elim (cond (A || B) passes (cond D (gives n) ends)) [ ends ↦ [] | passes ↦ keys_from t r backward taken ks | gives m ↦ m ∷ keys_from t r backward (m ∷ taken) ks ])

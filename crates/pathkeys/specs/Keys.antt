@@ -62,12 +62,12 @@ abbrev pub turned : Bool → Bool → Bool
 turned backward b = cond backward (not b) b
 
 -- two directions, or two places of NULL, are the same
-abbrev pub is_equal : Bool → Bool → Bool
-is_equal a b = cond a b (not b)
+abbrev pub is_same_direction : Bool → Bool → Bool
+is_same_direction a b = cond a b (not b)
 
 -- the key column's direction and place of NULL, both turned round for a backward scan, are the class's
 abbrev pub has_direction : Bool → IndexKey → Class → Bool
-has_direction backward k c = is_equal (turned backward k.descending) c.descending && is_equal (turned backward k.nulls_first) c.nulls_first
+has_direction backward k c = is_same_direction (turned backward k.descending) c.descending && is_same_direction (turned backward k.nulls_first) c.nulls_first
 
 -- a column without a class ends the list; a class that has a constant or is taken is passed over; another is given where the directions are equal, else it ends the list
 abbrev pub step_of : ClassTable → Bool → Keys → IndexKey → Option ℕ → Step
@@ -76,12 +76,12 @@ step_of t backward taken k (Some n) =
     cond (is_constant t n || list_any (nat_eq n) taken) passes (cond (has_direction backward k (class_at t.classes n)) (gives n) ends)
 
 -- the column of a relation that a key column is
-abbrev pub column_of : ℕ → IndexKey → ColRef
-column_of r k = record { rel = record { 0 = r }; col = k.col }
+abbrev pub key_column : ℕ → IndexKey → ColRef
+key_column r k = record { rel = record { 0 = r }; col = k.col }
 
 -- the class of a key column, in the family of its operator class
 abbrev pub class_of_key : ClassTable → ℕ → IndexKey → Option ℕ
-class_of_key t r k = class_of t (column_of r k) (key_family k)
+class_of_key t r k = class_of t (key_column r k) (key_family k)
 
 -- from the left over the key columns, where some classes are taken already
 abbrev pub keys_from : ClassTable → ℕ → Bool → Keys → List IndexKey → Keys

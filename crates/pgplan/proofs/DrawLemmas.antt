@@ -3,10 +3,10 @@ use Rattle.std.proofs.Common.{◌≡◌, ℕ, zero, suc, ◌+◌, ◌*◌, ◌/�
 use Rattle.std.proofs.lemmas.List.Concat.{flat_map-append}
 use Rattle.std.specs.Fmt.{decimal}
 use Rattle.std.specs.List.{flat_map, range_with_len}
-use Rattle.pgplan.specs.Script.{draw_at, drawn, record_line, records, turned}
+use Rattle.pgplan.specs.Script.{draw_at, drawn, record_line, records, state_behind}
 
 -- one more draw
-pub drawn-more : (s k : ℕ) → drawn s (k + 1) ≡ turned (drawn s k)
+pub drawn-more : (s k : ℕ) → drawn s (k + 1) ≡ state_behind (drawn s k)
 unfolding drawn
 drawn-more s k = ap (drawn s) (add-one k)
 
@@ -18,14 +18,14 @@ drawn-none s = refl
 pub drawn-then : (s j k : ℕ) → drawn (drawn s j) k ≡ drawn s (j + k)
 unfolding drawn
 drawn-then s j zero = ap (drawn s) (sym (add-zero j))
-drawn-then s j (suc k) = ap turned (drawn-then s j k) ∙ ap (drawn s) (sym (add-suc j k))
+drawn-then s j (suc k) = ap state_behind (drawn-then s j k) ∙ ap (drawn s) (sym (add-suc j k))
 
 -- the states that a record's two draws leave
-pub drawn-two : (s a b c i : ℕ) → a ≡ drawn s (2 * i) → b ≡ turned a → c ≡ turned b → (b ≡ drawn s (2 * i + 1)) × (c ≡ drawn s (2 * (i + 1)))
+pub drawn-two : (s a b c i : ℕ) → a ≡ drawn s (2 * i) → b ≡ state_behind a → c ≡ state_behind b → (b ≡ drawn s (2 * i + 1)) × (c ≡ drawn s (2 * (i + 1)))
 drawn-two s a b c i is one two =
-    let first : b ≡ drawn s (2 * i + 1) = one ∙ ap turned is ∙ sym (drawn-more s (2 * i)) in
+    let first : b ≡ drawn s (2 * i + 1) = one ∙ ap state_behind is ∙ sym (drawn-more s (2 * i)) in
     let place : 2 * i + 1 + 1 ≡ 2 * (i + 1) = omega arith in
-    (first, two ∙ ap turned first ∙ sym (drawn-more s (2 * i + 1)) ∙ ap (drawn s) place)
+    (first, two ∙ ap state_behind first ∙ sym (drawn-more s (2 * i + 1)) ∙ ap (drawn s) place)
 
 pub records-none : (s least below : ℕ) → records s least below 0 ≡ []
 unfolding records
@@ -66,12 +66,12 @@ pub record IsDraw (s k state draw below : ℕ) : Type 0 where
   pub state_is : state ≡ drawn s (k + 1)
   pub draw_is : draw ≡ draw_at s k below
 
-pub first-draw : (s a draw below : ℕ) → a ≡ turned s → draw ≡ (a / 2 ^ 33) % below → IsDraw s 0 a draw below
+pub first-draw : (s a draw below : ℕ) → a ≡ state_behind s → draw ≡ (a / 2 ^ 33) % below → IsDraw s 0 a draw below
 first-draw s a draw below turns draws =
-    let is : a ≡ drawn s (0 + 1) = turns ∙ ap turned (sym (drawn-none s)) ∙ sym (drawn-more s 0) in
+    let is : a ≡ drawn s (0 + 1) = turns ∙ ap state_behind (sym (drawn-none s)) ∙ sym (drawn-more s 0) in
     record { state_is = is; draw_is = draws ∙ ap (λ (x : ℕ). (x / 2 ^ 33) % below) is }
 
-pub next-draw : (s k j a b first draw other below : ℕ) → j ≡ k + 1 → IsDraw s k a first other → b ≡ turned a → draw ≡ (b / 2 ^ 33) % below → IsDraw s j b draw below
+pub next-draw : (s k j a b first draw other below : ℕ) → j ≡ k + 1 → IsDraw s k a first other → b ≡ state_behind a → draw ≡ (b / 2 ^ 33) % below → IsDraw s j b draw below
 next-draw s k j a b first draw other below after is turns draws =
-    let at : b ≡ drawn s (j + 1) = turns ∙ ap turned (is.state_is ∙ ap (drawn s) (sym after)) ∙ sym (drawn-more s j) in
+    let at : b ≡ drawn s (j + 1) = turns ∙ ap state_behind (is.state_is ∙ ap (drawn s) (sym after)) ∙ sym (drawn-more s j) in
     record { state_is = at; draw_is = draws ∙ ap (λ (x : ℕ). (x / 2 ^ 33) % below) at }

@@ -4,7 +4,7 @@ use Rattle.std.proofs.lemmas.List.{length-append}
 use Rattle.std.proofs.lemmas.List.Sums.{sum_by_push}
 use Rattle.std.specs.List.{cons_option}
 use Rattle.store.specs.Actions.{after}
-use Rattle.statements.specs.reply_Measures.{IsLeastPrice, rows_in}
+use Rattle.statements.specs.reply_Measures.{IsBestPrice, rows_in}
 use Rattle.statements.specs.reply_measuring_Measured.{Measured}
 use Rattle.sql_query.specs.Worlds.{World, empty_world}
 use Rattle.statements.specs.declared.end.End.{End}
@@ -26,7 +26,7 @@ askings-more w (t ∷ ss) s =
     ap (λ (qs : List Asking). cons_option (asked_in w t.action) qs) (askings-more (after w t.action) ss s)
     ∙ cons-append (asked_in w t.action) (askings (after w t.action) ss) (cons_option (asked_in (world_after (after w t.action) ss) s.action) [])
 
-least-more : (qs : List Asking) (prices : List ℕ) (a : Asking) (price : ℕ) → AreLeastPrices qs prices → IsLeastPrice a.world.contents a.query price → AreLeastPrices (qs ++ a ∷ []) (prices ++ price ∷ [])
+least-more : (qs : List Asking) (prices : List ℕ) (a : Asking) (price : ℕ) → AreLeastPrices qs prices → IsBestPrice a.world.contents a.query price → AreLeastPrices (qs ++ a ∷ []) (prices ++ price ∷ [])
 least-more [] [] a price are one = (one, tt)
 least-more [] (p ∷ ps) a price are one = absurd are
 least-more (b ∷ bs) [] a price are one = absurd are

@@ -1,6 +1,6 @@
 -- Parts of the script put behind one another.
 use Rattle.std.proofs.Common.{◌≡◌, ℕ, ◌+◌, List, ◌++◌, append_assoc, codes, ap, ap₂, ◌∙◌, cond, Result, Ok, Err, OnOk, is_ok}
-use Rattle.pgplan.specs.Script.{chain_query, copied, data_of, definitions, draw_at, drawn, either_query, group_query, head_of, pair_query, self_query, value_query, queries_of, records, script}
+use Rattle.pgplan.specs.Script.{chain_query, copied, data_of, definitions, draw_at, drawn, either_query, one_group_query, head_of, pair_query, self_query, value_query, queries_of, records, script}
 use Rattle.pgplan.proofs.DrawLemmas.{IsDraw, drawn-then}
 
 -- two and three parts behind a text
@@ -31,11 +31,11 @@ state-all s b c d is is' more = more ∙ ap (λ (x : ℕ). drawn x 4000) (is' �
 -- the six queries, by seven numbers drawn one after another
 pub queries-all : (t u₁ u₂ u₃ u₄ u₅ u₆ : List ℕ) (s : ℕ) {s₀ s₁ s₂ s₃ s₄ s₅ s₆ d₀ d₁ d₂ d₃ d₄ d₅ d₆ : ℕ}
     → IsDraw s 0 s₀ d₀ 50 → IsDraw s 1 s₁ d₁ 1000 → IsDraw s 2 s₂ d₂ 500 → IsDraw s 3 s₃ d₃ 500 → IsDraw s 4 s₄ d₄ 1000 → IsDraw s 5 s₅ d₅ 1000 → IsDraw s 6 s₆ d₆ 500
-    → u₁ ≡ t ++ group_query d₀ → u₂ ≡ u₁ ++ pair_query d₁ → u₃ ≡ u₂ ++ chain_query (1 + d₂) → u₄ ≡ u₃ ++ either_query (1 + d₃) d₄ → u₅ ≡ u₄ ++ value_query d₅ → u₆ ≡ u₅ ++ self_query (1 + d₆)
+    → u₁ ≡ t ++ one_group_query d₀ → u₂ ≡ u₁ ++ pair_query d₁ → u₃ ≡ u₂ ++ chain_query (1 + d₂) → u₄ ≡ u₃ ++ either_query (1 + d₃) d₄ → u₅ ≡ u₄ ++ value_query d₅ → u₆ ≡ u₅ ++ self_query (1 + d₆)
     → u₆ ≡ t ++ queries_of s
 unfolding queries_of
 queries-all t u₁ u₂ u₃ u₄ u₅ u₆ s i₀ i₁ i₂ i₃ i₄ i₅ i₆ one two more four five six =
-    let a = group_query (draw_at s 0 50) in
+    let a = one_group_query (draw_at s 0 50) in
     let b = pair_query (draw_at s 1 1000) in
     let c = chain_query (1 + draw_at s 2 500) in
     let d = either_query (1 + draw_at s 3 500) (draw_at s 4 1000) in
@@ -45,7 +45,7 @@ queries-all t u₁ u₂ u₃ u₄ u₅ u₆ s i₀ i₁ i₂ i₃ i₄ i₅ i₆
     (both t u₄ u₅ (a ++ b ++ c ++ d) e
     (both t u₃ u₄ (a ++ b ++ c) d
     (both t u₂ u₃ (a ++ b) c
-    (both t u₁ u₂ a b (one ∙ ap (λ (x : ℕ). t ++ group_query x) i₀.draw_is) (two ∙ ap (λ (x : ℕ). u₁ ++ pair_query x) i₁.draw_is))
+    (both t u₁ u₂ a b (one ∙ ap (λ (x : ℕ). t ++ one_group_query x) i₀.draw_is) (two ∙ ap (λ (x : ℕ). u₁ ++ pair_query x) i₁.draw_is))
     (more ∙ ap (λ (x : ℕ). u₂ ++ chain_query (1 + x)) i₂.draw_is))
     (four ∙ ap₂ (λ (x y : ℕ). u₃ ++ either_query (1 + x) y) i₃.draw_is i₄.draw_is))
     (five ∙ ap (λ (x : ℕ). u₄ ++ value_query x) i₅.draw_is))

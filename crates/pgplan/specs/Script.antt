@@ -5,13 +5,13 @@ use Rattle.std.specs.Fmt.{decimal}
 use Rattle.std.specs.List.{flat_map, range_with_len}
 
 -- the state of 64 bits behind a state
-abbrev pub turned : ℕ → ℕ
-turned s = (s * 6364136223846793005 + 1442695040888963407) % 2 ^ 64
+abbrev pub state_behind : ℕ → ℕ
+state_behind s = (s * 6364136223846793005 + 1442695040888963407) % 2 ^ 64
 
 -- the state so many draws behind a state
 unfoldable pub drawn : ℕ → ℕ → ℕ
 drawn s zero = s
-drawn s (suc k) = turned (drawn s k)
+drawn s (suc k) = state_behind (drawn s k)
 
 -- the draw below a number that comes behind k others: the upper 31 bits of the state that it leaves, modulo that number
 abbrev pub draw_at : ℕ → ℕ → (below : ℕ) → ℕ
@@ -58,8 +58,8 @@ abbrev pub between : List ℕ → ℕ → List ℕ → List ℕ
 between before n behind = before ++ decimal n ++ behind
 
 -- the rows of one group, in an order that an index has
-abbrev pub group_query : ℕ → List ℕ
-group_query g = between (codes "SELECT * FROM a WHERE g = ") g (codes " ORDER BY v;\n")
+abbrev pub one_group_query : ℕ → List ℕ
+one_group_query g = between (codes "SELECT * FROM a WHERE g = ") g (codes " ORDER BY v;\n")
 
 -- a join of two tables, with a range of values of one
 abbrev pub pair_query : ℕ → List ℕ
@@ -84,7 +84,7 @@ self_query id = between (codes "SELECT x.id, y.id FROM a x, a y WHERE x.g = y.g 
 -- the six queries, by seven draws from the left
 unfoldable pub queries_of : ℕ → List ℕ
 queries_of s =
-    group_query (draw_at s 0 50) ++ pair_query (draw_at s 1 1000) ++ chain_query (1 + draw_at s 2 500) ++ either_query (1 + draw_at s 3 500) (draw_at s 4 1000)
+    one_group_query (draw_at s 0 50) ++ pair_query (draw_at s 1 1000) ++ chain_query (1 + draw_at s 2 500) ++ either_query (1 + draw_at s 3 500) (draw_at s 4 1000)
     ++ value_query (draw_at s 5 1000) ++ self_query (1 + draw_at s 6 500)
 
 -- the script of a number, which is the first state

@@ -6,7 +6,7 @@ use Rattle.std.specs.Io.KnownBytes.{Appends}
 use Rattle.pg_base.specs.Writing.{AppendsPrefix}
 use Rattle.reply_text.specs.Lines.{fault_line}
 use Rattle.reply_text.specs.Tells.{IsFieldOf}
-use Rattle.statements.specs.reply_Measures.{IsLeastPrice, rows_in}
+use Rattle.statements.specs.reply_Measures.{IsBestPrice, rows_in}
 use Rattle.statements.specs.reply_measuring_Measured.{Measured}
 use Rattle.sql_query.specs.Worlds.{World, empty_world}
 use Rattle.statements.specs.declared.end.End.{End}
@@ -23,7 +23,7 @@ rows_together qs = sum_by (λ a. rows_in a.world a.query) qs
 -- the prices of plans that no admissible ones undercut, one for each query
 abbrev pub AreLeastPrices : List Asking → List ℕ → Type 0
 AreLeastPrices [] [] = Unit {0}
-AreLeastPrices (a ∷ qs) (price ∷ prices) = IsLeastPrice a.world.contents a.query price × AreLeastPrices qs prices
+AreLeastPrices (a ∷ qs) (price ∷ prices) = IsBestPrice a.world.contents a.query price × AreLeastPrices qs prices
 AreLeastPrices _ _ = ⊥
 
 -- there are so many queries, whose answers have so many rows together, and whose least prices come to this cost

@@ -1,7 +1,7 @@
 //! Numbers drawn one after another, the same ones for the same first state.
 
 ghost use Rattle.std.specs.Prelude.{◌≡◌, ◌<◌, ◌/◌, ◌%◌, ◌^◌};
-ghost use Rattle.pgplan.specs.Script.{turned};
+ghost use Rattle.pgplan.specs.Script.{state_behind};
 
 /// A linear congruential generator (D. E. Knuth, The Art of Computer Programming, volume 2, section 3.3.4, MMIX).
 #[derive(Drop)]
@@ -14,7 +14,7 @@ impl Draws {
     /// Draws a number below another one.
     pub(crate) fn below(&mut self, end: u64) -> u64
         requires some { 0 < end }
-        ensures state { self.new.state ≡ turned self.old.state }
+        ensures state { self.new.state ≡ state_behind self.old.state }
         ensures draw { result ≡ (self.new.state / 2 ^ 33) % end }
     {
         self.state = self

@@ -28,7 +28,7 @@ use Rattle.sql_query.specs.Worlds.{World, IsWorld}
 use Rattle.sql_query.specs.Tuples.{Tuple, beside, value_at, row_numbers}
 use Rattle.sql_query.specs.Meaning.{all_true}
 use Rattle.plan_tree.specs.Entries.{entry_rows}
-use Rattle.plan_tree.specs.Run.{at_which, conditions, clauses_at, arm_holds, some_holds, holds, all_hold_row, held}
+use Rattle.plan_tree.specs.Run.{at_which, index_scan_conditions, clauses_at, arm_holds, some_holds, holds, all_hold_row, held}
 use Rattle.plan_laws.proofs.PermLemmas.{Perm, none, keep, turn, join}
 use Rattle.plan_laws.specs.Meant.{holds_at, tested, meant_rows}
 use Rattle.plan_laws.proofs.EachLemmas.{each_contained, each_joined, each_mapped, each_masked, each_taken, each_weaker}
@@ -168,7 +168,7 @@ module _ (w : World) (q : Query) (world : IsWorld w) (r : RelNo) (p : RelSet) (o
 
   leaf_holds : (i : IndexNo) → IsIndexOn w.contents q r.0 i → IsUsable w.contents q.classes i r.0 → holds w q r p o row (leaf i) ≡ true
   leaf_holds i is usable =
-      is_in_filter row (λ n. all_true w q (beside q r.0 n o) (conditions w q r i p)) (entry_rows w i) (conditions_hold w q r i p (beside q r.0 row o) passes) (has_entry i is usable)
+      is_in_filter row (λ n. all_true w q (beside q r.0 n o) (index_scan_conditions w q r i p)) (entry_rows w i) (conditions_hold w q r i p (beside q r.0 row o) passes) (has_entry i is usable)
 
   arm_is_held : (arm : Cond) (i : IndexNo) → MatchesArm w.contents q r.0 arm i → is_true (truth_at (value_at w q (beside q r.0 row o)) arm) ≡ true → arm_holds w q r o row arm i ≡ true
   arm_is_held arm i matches h =

@@ -5,7 +5,8 @@ use Rattle.std.proofs.Math.Nat.{le_antisymm}
 use Rattle.catalog.specs.Contents.{Contents, TableDef, NamedIndex}
 use Rattle.sql_query.specs.Queries.{Query}
 use Rattle.sql_query.specs.WellBound.{IsColumnOf, IsWellBound}
-use Rattle.plan_laws.specs.Moved.{HasNoPlan, HasPrice, over}
+use Rattle.plan_laws.specs.Moved.{HasPrice, over}
+use Rattle.plan_tree.specs.Least.{HasNoPlan}
 
 pub bound-over : (tables : List TableDef) (a b : List NamedIndex) (q : Query) → IsWellBound (over tables a) q → IsWellBound (over tables b) q
 bound-over tables a b q h = record {

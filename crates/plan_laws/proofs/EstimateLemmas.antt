@@ -13,7 +13,7 @@ use Rattle.catalog.specs.Range.{Range}
 use Rattle.eq_classes.specs.Classes.{listed}
 use Rattle.path_cost.specs.Columns.{stats_of}
 use Rattle.path_cost.specs.Estimates.{kept}
-use Rattle.path_cost.specs.Ranges.{Bound, bound_of, condition_at, has_end, is_bound_at}
+use Rattle.path_cost.specs.Ranges.{ColumnBound, bound_of, listed_condition, has_end, is_bound_at}
 use Rattle.path_cost.specs.Selectivity.{selectivity, of_all, of_any, of_comparison, of_column_and, and_share, or_share, bound_share, least_bound, column_range, end_weight, is_ranged, range_share, range_weight, weight, weight_or, weights}
 use Rattle.path_cost.specs.declared.shares.TheConstants.{ALL_ROWS}
 use Rattle.plan_laws.specs.Moved.{over}
@@ -41,12 +41,12 @@ module _ (tables : List TableDef) (a b : List NamedIndex) (range : Range) where
   column-over : (x : ColRef) (es : List Cond) → column_range (over tables b) range x es ≡ column_range (over tables a) range x es
   column-over x es = ap₂ (range_share (stats_of (over tables a) range x)) (least-over x true es) (least-over x false es)
 
-  end-over : (es before : List Cond) (o : Option Bound) → end_weight (over tables b) range es before o ≡ end_weight (over tables a) range es before o
+  end-over : (es before : List Cond) (o : Option ColumnBound) → end_weight (over tables b) range es before o ≡ end_weight (over tables a) range es before o
   end-over es before None = refl
   end-over es before (Some (x, below)) = ap (λ (n : ℕ). cond (is_ranged (stats_of (over tables a) range x) x es) (Some (cond (has_end x before) ALL_ROWS n)) None) (column-over x es)
 
   ranged-over : (es : List Cond) (n : ℕ) → range_weight (over tables b) range es n ≡ range_weight (over tables a) range es n
-  ranged-over es n = end-over es (take n es) (bound_of (condition_at es n))
+  ranged-over es n = end-over es (take n es) (bound_of (listed_condition es n))
 
   mutual
     pub selectivity-over : (e : Cond) → selectivity (over tables b) range e ≡ selectivity (over tables a) range e
@@ -70,7 +70,7 @@ module _ (tables : List TableDef) (a b : List NamedIndex) (range : Range) where
     of-any-over n (cond_and e es) = of-any-over (or_share n (selectivity (over tables b) range e)) es ∙ ap (λ (m : ℕ). of_any (over tables a) range (or_share n m) es) (selectivity-over e)
 
   weight-over : (es : List Cond) (n : ℕ) → weight (over tables b) range es n ≡ weight (over tables a) range es n
-  weight-over es n = ap₂ weight_or (ranged-over es n) (selectivity-over (condition_at es n))
+  weight-over es n = ap₂ weight_or (ranged-over es n) (selectivity-over (listed_condition es n))
 
   pub kept-over : (n : ℕ) (es : List Cond) (ns : List ℕ) → kept n (weights (over tables b) range es ns) ≡ kept n (weights (over tables a) range es ns)
   kept-over n es ns = λ z. kept n (map (λ k. weight-over es k z) ns)

@@ -14,7 +14,7 @@ use Rattle.pg_value.specs.declared.value.Value.{Value}
 use Rattle.pg_value.specs.ColumnOrder.{column_order}
 use Rattle.pg_value.specs.Sorting.{in_order}
 use Rattle.pg_value.proofs.ColumnOrderLemmas.{column_total}
-use Rattle.opfamily.specs.KeyOrder.{key_family, key_values_order as values_order, Entry, entry_order}
+use Rattle.opfamily.specs.KeyOrder.{key_family, key_values_order as values_order, IndexEntry, entry_order}
 use Rattle.opfamily.specs.declared.classes.IndexKey.{IndexKey}
 use Rattle.opfamily.specs.declared.classes.Method.{Method}
 use Rattle.opfamily.specs.declared.classes.Method.TheVariants.{Btree, Hash}
@@ -33,12 +33,12 @@ use Rattle.sql_query.specs.Queries.{Query, width}
 use Rattle.sql_query.specs.Tuples.{Tuple, row_of, one_row, beside, value_at, rows_of_relation}
 use Rattle.sql_query.specs.WellBound.{IsWellBound}
 use Rattle.sql_query.specs.Worlds.{World, IsWorld, stored_at}
-use Rattle.pathkeys.specs.Keys.{Keys, class_of_key, column_of, ends, passes, gives, step_of, keys_from, keys_by, has_direction, turned, is_equal, is_constant}
+use Rattle.pathkeys.specs.Keys.{Keys, class_of_key, key_column, ends, passes, gives, step_of, keys_from, keys_by, has_direction, turned, is_same_direction, is_constant}
 use Rattle.pathkeys.specs.Sorted.{class_order, order_at, keys_order}
 use Rattle.plan_tree.specs.Entries.{cell, meets_predicate, entry, ordered, entries_over, entry_rows}
 use Rattle.plan_tree.specs.Keys.{scan_keys}
 use Rattle.plan_tree.specs.Plans.{is_empty}
-use Rattle.plan_tree.specs.Run.{in_scan_direction, conditions, clauses_at, index_rows, tuples}
+use Rattle.plan_tree.specs.Run.{in_scan_direction, index_scan_conditions, clauses_at, index_rows, tuples}
 use Rattle.plan_tree.specs.Space.{IsIndexScan}
 use Rattle.plan_laws.specs.Meant.{holds_at}
 use Rattle.plan_laws.proofs.ClauseLemmas.{one_is_base, local_base}
@@ -68,7 +68,7 @@ keys_from_are t r backward taken (k ∷ ks) = by (λ more. keys_from_are t r bac
     by : ((more : Keys) → AreKeys t (one r) (keys_from t r backward more ks)) → (o : Option ℕ) → class_of_key t r k ≡ o
         → AreKeys t (one r) (elim (step_of t backward taken k o) [ ends ↦ [] | passes ↦ keys_from t r backward taken ks | gives m ↦ m ∷ keys_from t r backward (m ∷ taken) ks ])
     by later None e = tt
-    by later (Some n) e = by_tests later n (class_found t (column_of r k) (key_family k) n e) (is_constant t n || list_any (nat_eq n) taken) (has_direction backward k (class_at t.classes n))
+    by later (Some n) e = by_tests later n (class_found t (key_column r k) (key_family k) n e) (is_constant t n || list_any (nat_eq n) taken) (has_direction backward k (class_at t.classes n))
 
 keys_by_are : (m : Method) (t : ClassTable) (r : ℕ) (backward : Bool) (ks : List IndexKey) → AreKeys t (one r) (keys_by m t r backward ks)
 keys_by_are Btree t r backward ks = keys_from_are t r backward [] ks
@@ -102,17 +102,17 @@ module _ (w : World) (q : Query) (world : IsWorld w) (bound : IsWellBound w.cont
   own : one r.0 r.0 ≡ true
   own = eq-eqb r.0 r.0 refl
 
-  row_value : (row : ℕ) (k : IndexKey) → value_at w q (one_row q r.0 row) (column_of r.0 k) ≡ cell (slice_index_or rows row []) k.col
+  row_value : (row : ℕ) (k : IndexKey) → value_at w q (one_row q r.0 row) (key_column r.0 k) ≡ cell (slice_index_or rows row []) k.col
   row_value row k = ap (λ (n : ℕ). cell (slice_index_or rows n []) k.col) (row_at (width q) (λ j. cond (one r.0 j) row 0) r.0 lt ∙ ap (λ (v : Bool). cond v row 0) own)
 
   -- a key column orders as the first member of its class
   first_alike : (k : IndexKey) (n : ℕ) → KeyClass q.classes r.0 k n → (z : ColRef) → first_in (class_at q.classes.classes n) (one r.0) ≡ Some z → (e m : Bool)
-      → column_order (class_at q.classes.classes n).family e m (b (column_of r.0 k)) (d (column_of r.0 k)) ≡ column_order (class_at q.classes.classes n).family e m (b z) (d z)
+      → column_order (class_at q.classes.classes n).family e m (b (key_column r.0 k)) (d (key_column r.0 k)) ≡ column_order (class_at q.classes.classes n).family e m (b z) (d z)
   first_alike k n key z first e m =
       let c = class_at q.classes.classes n in
-      members_alike w q world bound (one r.0) c key.class (one_row q r.0 x) (one_row q r.0 y) holds_x holds_y (column_of r.0 k) z key.member (in_member c z (found_in (λ u. one r.0 u.rel.0) c.members z first)) own (found_passes (λ u. one r.0 u.rel.0) c.members z first) e m
+      members_alike w q world bound (one r.0) c key.class (one_row q r.0 x) (one_row q r.0 y) holds_x holds_y (key_column r.0 k) z key.member (in_member c z (found_in (λ u. one r.0 u.rel.0) c.members z first)) own (found_passes (λ u. one r.0 u.rel.0) c.members z first) e m
 
-  key_value : (backward : Bool) (k : IndexKey) (n : ℕ) → KeyClass q.classes r.0 k n → way backward (row_order rows k) x y ≡ way backward (column_order (class_at q.classes.classes n).family k.descending k.nulls_first) (b (column_of r.0 k)) (d (column_of r.0 k))
+  key_value : (backward : Bool) (k : IndexKey) (n : ℕ) → KeyClass q.classes r.0 k n → way backward (row_order rows k) x y ≡ way backward (column_order (class_at q.classes.classes n).family k.descending k.nulls_first) (b (key_column r.0 k)) (d (key_column r.0 k))
   key_value backward k n key =
       ap (λ (f : Family). way backward (λ (i j : ℕ). column_order f k.descending k.nulls_first (cell (slice_index_or rows i []) k.col) (cell (slice_index_or rows j []) k.col)) x y) key.family
       ∙ by backward
@@ -120,7 +120,7 @@ module _ (w : World) (q : Query) (world : IsWorld w) (bound : IsWellBound w.cont
       F : Family
       F = (class_at q.classes.classes n).family
 
-      by : (v : Bool) → way v (λ (i j : ℕ). column_order F k.descending k.nulls_first (cell (slice_index_or rows i []) k.col) (cell (slice_index_or rows j []) k.col)) x y ≡ way v (column_order F k.descending k.nulls_first) (b (column_of r.0 k)) (d (column_of r.0 k))
+      by : (v : Bool) → way v (λ (i j : ℕ). column_order F k.descending k.nulls_first (cell (slice_index_or rows i []) k.col) (cell (slice_index_or rows j []) k.col)) x y ≡ way v (column_order F k.descending k.nulls_first) (b (key_column r.0 k)) (d (key_column r.0 k))
       by true = ap₂ (column_order F k.descending k.nulls_first) (sym (row_value y k)) (sym (row_value x k))
       by false = ap₂ (column_order F k.descending k.nulls_first) (sym (row_value x k)) (sym (row_value y k))
 
@@ -135,26 +135,26 @@ module _ (w : World) (q : Query) (world : IsWorld w) (bound : IsWellBound w.cont
   constant_ties backward k n key h =
       let c = class_at q.classes.classes n in
       key_value backward k n key
-      ∙ way_ties (column_order c.family k.descending k.nulls_first) (column_total c.family k.descending k.nulls_first) backward (b (column_of r.0 k)) (d (column_of r.0 k))
-      (constants_tie w q world bound (one r.0) c key.class (one_row q r.0 x) (one_row q r.0 y) holds_x holds_y (column_of r.0 k) h key.member own k.descending k.nulls_first)
+      ∙ way_ties (column_order c.family k.descending k.nulls_first) (column_total c.family k.descending k.nulls_first) backward (b (key_column r.0 k)) (d (key_column r.0 k))
+      (constants_tie w q world bound (one r.0) c key.class (one_row q r.0 x) (one_row q r.0 y) holds_x holds_y (key_column r.0 k) h key.member own k.descending k.nulls_first)
 
   taken_ties : (backward : Bool) (k : IndexKey) (n : ℕ) → KeyClass q.classes r.0 k n → TiesAt n → way backward (row_order rows k) x y ≡ Equal
   taken_ties backward k n key h =
       let c = class_at q.classes.classes n in
       let first = first_of q.classes r.0 k n key in
       key_value backward k n key
-      ∙ way_ties (column_order c.family k.descending k.nulls_first) (column_total c.family k.descending k.nulls_first) backward (b (column_of r.0 k)) (d (column_of r.0 k))
-      (tie_in_all c.family c.descending c.nulls_first k.descending k.nulls_first (b (column_of r.0 k)) (d (column_of r.0 k))
+      ∙ way_ties (column_order c.family k.descending k.nulls_first) (column_total c.family k.descending k.nulls_first) backward (b (key_column r.0 k)) (d (key_column r.0 k))
+      (tie_in_all c.family c.descending c.nulls_first k.descending k.nulls_first (b (key_column r.0 k)) (d (key_column r.0 k))
       (first_alike k n key first.0 first.1 c.descending c.nulls_first ∙ ap (λ (o : Option ColRef). order_at c o b d) (sym first.1) ∙ h))
 
   given_order : (backward : Bool) (k : IndexKey) (n : ℕ) → KeyClass q.classes r.0 k n → has_direction backward k (class_at q.classes.classes n) ≡ true → way backward (row_order rows k) x y ≡ class_order (class_at q.classes.classes n) (one r.0) b d
   given_order backward k n key h =
       let c = class_at q.classes.classes n in
       let first = first_of q.classes r.0 k n key in
-      let parts : (is_equal (turned backward k.descending) c.descending ≡ true) × (is_equal (turned backward k.nulls_first) c.nulls_first ≡ true) = and_parts (is_equal (turned backward k.descending) c.descending) (is_equal (turned backward k.nulls_first) c.nulls_first) h in
+      let parts : (is_same_direction (turned backward k.descending) c.descending ≡ true) × (is_same_direction (turned backward k.nulls_first) c.nulls_first ≡ true) = and_parts (is_same_direction (turned backward k.descending) c.descending) (is_same_direction (turned backward k.nulls_first) c.nulls_first) h in
       key_value backward k n key
-      ∙ column_way c.family backward k.descending k.nulls_first (b (column_of r.0 k)) (d (column_of r.0 k))
-      ∙ ap₂ (λ (e m : Bool). column_order c.family e m (b (column_of r.0 k)) (d (column_of r.0 k))) (equal_bools (turned backward k.descending) c.descending parts.0) (equal_bools (turned backward k.nulls_first) c.nulls_first parts.1)
+      ∙ column_way c.family backward k.descending k.nulls_first (b (key_column r.0 k)) (d (key_column r.0 k))
+      ∙ ap₂ (λ (e m : Bool). column_order c.family e m (b (key_column r.0 k)) (d (key_column r.0 k))) (equal_bools (turned backward k.descending) c.descending parts.0) (equal_bools (turned backward k.nulls_first) c.nulls_first parts.1)
       ∙ first_alike k n key first.0 first.1 c.descending c.nulls_first
       ∙ ap (λ (o : Option ColRef). order_at c o b d) (sym first.1)
 
@@ -185,7 +185,7 @@ module _ (w : World) (q : Query) (world : IsWorld w) (bound : IsWellBound w.cont
           → is_gt (ordering_then (way backward (row_order rows k) x y) (way backward (rows_order rows ks) x y)) ≡ false
           → Ups (elim (step_of q.classes backward taken k o) [ ends ↦ [] | passes ↦ keys_from q.classes r.0 backward taken ks | gives m ↦ m ∷ keys_from q.classes r.0 backward (m ∷ taken) ks ])
       by later None e g = refl
-      by later (Some n) e g = by_tests later n (class_found q.classes (column_of r.0 k) (key_family k) n e) (is_constant q.classes n) (list_any (nat_eq n) taken) (has_direction backward k (class_at q.classes.classes n)) refl refl refl g
+      by later (Some n) e g = by_tests later n (class_found q.classes (key_column r.0 k) (key_family k) n e) (is_constant q.classes n) (list_any (nat_eq n) taken) (has_direction backward k (class_at q.classes.classes n)) refl refl refl g
 
 -- an order by keys reads the values alone
 read_alike : {X : Type 0} (value : X → ColRef → Value) (t : ClassTable) (set : Set) (keys : Keys) (x y : X) → keys_order value t set keys x y ≡ keys_order (λ (v : ColRef → Value). v) t set keys (value x) (value y)
@@ -198,15 +198,15 @@ not_after Less b h = refl
 not_after Equal b h = refl
 not_after Greater b h = h
 
-abbrev IsEntryOf : Index → List Values → Entry → Type 0
+abbrev IsEntryOf : Index → List Values → IndexEntry → Type 0
 IsEntryOf d rows e = e.keys ≡ key_values rows d.keys e.row
 
-entries_up : (d : Index) (rows : List Values) → d.method ≡ Btree → IsUp (rows_order rows d.keys) (map (λ (e : Entry). e.row) (entries_over d rows))
+entries_up : (d : Index) (rows : List Values) → d.method ≡ Btree → IsUp (rows_order rows d.keys) (map (λ (e : IndexEntry). e.row) (entries_over d rows))
 entries_up d rows btree =
     let ns = filter (λ n. meets_predicate d.predicate (slice_index_or rows n [])) (range_with_len 0 (length rows)) in
     let es = map (entry d rows) ns in
-    subst (λ (m : Method). IsUp (rows_order rows d.keys) (map (λ (e : Entry). e.row) (ordered m d.keys es))) (sym btree)
-    (up_mapped (entry_order d.keys) (rows_order rows d.keys) (IsEntryOf d rows) (λ (e : Entry). e.row)
+    subst (λ (m : Method). IsUp (rows_order rows d.keys) (map (λ (e : IndexEntry). e.row) (ordered m d.keys es))) (sym btree)
+    (up_mapped (entry_order d.keys) (rows_order rows d.keys) (IsEntryOf d rows) (λ (e : IndexEntry). e.row)
     (λ e f he hf up. ap is_gt (sym (by_key_values rows d.keys e.row f.row)) ∙ ap is_gt (ap₂ (values_order d.keys) (sym he) (sym hf)) ∙ not_after (values_order d.keys e.keys f.keys) (nat_cmp e.row f.row) up)
     (in_order (entry_order d.keys) es)
     (each_Perm (IsEntryOf d rows) es (in_order (entry_order d.keys) es) (Perm-sym (in_order (entry_order d.keys) es) es (Perm-in_order (entry_order d.keys) es)) (each_made (IsEntryOf d rows) (entry d rows) (λ n. refl) ns))
@@ -243,9 +243,9 @@ module _ (w : World) (q : Query) where
         let ks = index.keys in
         let E = rows_order rows ks in
         let clause = λ (row : ℕ). all_true w q (beside q r.0 row o) (clauses_at w q r p) in
-        let condition = λ (row : ℕ). all_true w q (beside q r.0 row o) (conditions w q r i p) in
+        let condition = λ (row : ℕ). all_true w q (beside q r.0 row o) (index_scan_conditions w q r i p) in
         let entries : IsUp E (entry_rows w i) =
-        subst (λ (t : TableNo). IsUp E (map (λ (e : Entry). e.row) (entries_over index (stored_at w t).rows))) (sym is.index.table) (entries_up index rows e) in
+        subst (λ (t : TableNo). IsUp E (map (λ (e : IndexEntry). e.row) (entries_over index (stored_at w t).rows))) (sym is.index.table) (entries_up index rows e) in
         let holds = λ (row : ℕ) (h : clause row ≡ true). base_alone r.0 is.relation o row (base_of_tested w q r.0 (has p.0) (beside q r.0 row o) (sym (clauses_hold w q r p o row) ∙ h)) in
         up_mapped (way backward E) (by_keys w q (one r.0) (keys_from q.classes r.0 backward [] ks)) (λ (row : ℕ). clause row ≡ true) (one_row q r.0)
         (λ x y hx hy up. ap is_gt (read_alike (value_at w q) q.classes (one r.0) (keys_from q.classes r.0 backward [] ks) (one_row q r.0 x) (one_row q r.0 y))

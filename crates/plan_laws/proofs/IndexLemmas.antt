@@ -12,9 +12,9 @@ use Rattle.catalog.specs.Range.{Range}
 use Rattle.catalog.specs.Tables.{rows_of}
 use Rattle.eq_classes.specs.Clauses.{Set, ClassTable}
 use Rattle.cost_rules.specs.Scans.{part_cost, index_scan_cost}
-use Rattle.path_cost.specs.Estimates.{conditions_from, entries, entries_by, kept, kept_among, numbers_from, table_pages, table_rows}
+use Rattle.path_cost.specs.Estimates.{conditions_from, entry_estimate, entries_by, kept, kept_among, set_numbers_from, table_pages, table_rows}
 use Rattle.path_cost.specs.Runs.{runs}
-use Rattle.path_cost.specs.Costs.{arm_part, descent, descent_by, found, index_cost, index_part, other_operators, part_within, rows_after}
+use Rattle.path_cost.specs.Costs.{arm_part, descent, descent_by, index_rows_found, index_cost, index_part, other_operators, part_within, rows_after}
 use Rattle.index_match.specs.Arms.{arm_bounds, arm_parts}
 use Rattle.index_match.specs.Bounds.{bounds_among, index_bounds}
 use Rattle.index_match.specs.Conditions.{conditions_among, index_conditions}
@@ -51,7 +51,7 @@ module _ (tables : List TableDef) (a b : List NamedIndex) (i j : IndexNo) (same 
   pub usable-back : (t : ClassTable) (r : ℕ) → IsUsable (over tables b) t j r → IsUsable (over tables a) t i r
   usable-back t r h = usable-by tables b a t r (index_at (over tables a) i) (index_at (over tables a) i).predicate (subst (λ (d : Index). IsUsableBy (over tables b) t r d d.predicate) same h)
 
-  pub entries-same : entries (over tables b) j ≡ entries (over tables a) i
+  pub entries-same : entry_estimate (over tables b) j ≡ entry_estimate (over tables a) i
   entries-same = ap (λ (d : Index). entries_by (over tables b) d d.predicate) same ∙ entries-by tables a b (index_at (over tables a) i) (index_at (over tables a) i).predicate
 
   pub descent-same : descent (over tables b) j ≡ descent (over tables a) i
@@ -60,20 +60,20 @@ module _ (tables : List TableDef) (a b : List NamedIndex) (i j : IndexNo) (same 
   part-same : (l n k m : ℕ) → n ≡ k → part_within (over tables b) l j n m ≡ part_within (over tables a) l i k m
   part-same l n k m h =
       ap₂ (λ (x y : ℕ). part_cost l x (min y n) y m) descent-same entries-same
-      ∙ ap (λ (y : ℕ). part_cost l (descent (over tables a) i) (min (entries (over tables a) i) y) (entries (over tables a) i) m) h
+      ∙ ap (λ (y : ℕ). part_cost l (descent (over tables a) i) (min (entry_estimate (over tables a) i) y) (entry_estimate (over tables a) i) m) h
 
   index-part-same : (range : Range) (t : ClassTable) (r : ℕ) (p : Set) (bs cs : ℕ → Bool) → index_part (over tables b) range t j r p bs cs ≡ index_part (over tables a) range t i r p bs cs
   index-part-same range t r p bs cs =
       ap (λ (l : ℕ). part_within (over tables b) l j (rows_after (over tables b) range t r bs) (length (conditions_from 0 cs t.clauses))) (runs-over tables a b range t p)
       ∙ part-same (runs (over tables a) range t p) (rows_after (over tables b) range t r bs) (rows_after (over tables a) range t r bs) (length (conditions_from 0 cs t.clauses)) (kept-by-over tables a b range t (table_rows (over tables a) range r) bs)
 
-  found-same : (range : Range) (t : ClassTable) (r : ℕ) (cs : ℕ → Bool) → found (over tables b) range t j r cs ≡ found (over tables a) range t i r cs
+  found-same : (range : Range) (t : ClassTable) (r : ℕ) (cs : ℕ → Bool) → index_rows_found (over tables b) range t j r cs ≡ index_rows_found (over tables a) range t i r cs
   found-same range t r cs = ap₂ min entries-same (kept-by-over tables a b range t (table_rows (over tables a) range r) cs)
 
   index-cost-same : (range : Range) (t : ClassTable) (r : ℕ) (p : Set) (bs cs : ℕ → Bool) (only : Bool) → index_cost (over tables b) range t j r p bs cs only ≡ index_cost (over tables a) range t i r p bs cs only
   index-cost-same range t r p bs cs only =
-      ap (λ (l : ℕ). index_scan_cost l (descent (over tables b) j) (index_part (over tables b) range t j r p bs cs) only (found (over tables b) range t j r cs) (table_pages (over tables a) range r) (other_operators (over tables a) range t r p cs)) (runs-over tables a b range t p)
-      ∙ ap₂ (λ (x y : ℕ). index_scan_cost (runs (over tables a) range t p) x y only (found (over tables b) range t j r cs) (table_pages (over tables a) range r) (other_operators (over tables a) range t r p cs)) descent-same (index-part-same range t r p bs cs)
+      ap (λ (l : ℕ). index_scan_cost l (descent (over tables b) j) (index_part (over tables b) range t j r p bs cs) only (index_rows_found (over tables b) range t j r cs) (table_pages (over tables a) range r) (other_operators (over tables a) range t r p cs)) (runs-over tables a b range t p)
+      ∙ ap₂ (λ (x y : ℕ). index_scan_cost (runs (over tables a) range t p) x y only (index_rows_found (over tables b) range t j r cs) (table_pages (over tables a) range r) (other_operators (over tables a) range t r p cs)) descent-same (index-part-same range t r p bs cs)
       ∙ ap (λ (n : ℕ). index_scan_cost (runs (over tables a) range t p) (descent (over tables a) i) (index_part (over tables a) range t i r p bs cs) only n (table_pages (over tables a) range r) (other_operators (over tables a) range t r p cs)) (found-same range t r cs)
 
   -- what a scan by the index costs
@@ -93,4 +93,4 @@ module _ (tables : List TableDef) (a b : List NamedIndex) (i j : IndexNo) (same 
       ap (λ (d : Index). arm_part (over tables b) q.range q.classes j r p (arm_parts arm) (has_number (arm_bounds d r arm))) same
       ∙ ap (λ (l : ℕ). part_within (over tables b) l j (kept_among (over tables b) q.range (table_rows (over tables a) q.range r) (has_number (arm_bounds (index_at (over tables a) i) r arm)) (arm_parts arm)) (length (arm_parts arm))) (runs-over tables a b q.range q.classes p)
       ∙ part-same (runs (over tables a) q.range q.classes p) (kept_among (over tables b) q.range (table_rows (over tables a) q.range r) (has_number (arm_bounds (index_at (over tables a) i) r arm)) (arm_parts arm)) (kept_among (over tables a) q.range (table_rows (over tables a) q.range r) (has_number (arm_bounds (index_at (over tables a) i) r arm)) (arm_parts arm)) (length (arm_parts arm))
-      (kept-over tables a b q.range (table_rows (over tables a) q.range r) (arm_parts arm) (numbers_from 0 (length (arm_parts arm)) (has_number (arm_bounds (index_at (over tables a) i) r arm))))
+      (kept-over tables a b q.range (table_rows (over tables a) q.range r) (arm_parts arm) (set_numbers_from 0 (length (arm_parts arm)) (has_number (arm_bounds (index_at (over tables a) i) r arm))))

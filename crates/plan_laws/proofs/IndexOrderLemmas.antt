@@ -24,7 +24,7 @@ use Rattle.eq_classes.specs.Holding.{HasClass}
 use Rattle.eq_classes.specs.Listing.{blank, class_at}
 use Rattle.eq_classes.proofs.EqualLemmas.{family_is}
 use Rattle.eq_classes.proofs.ListLemmas.{contains_from_in, in_at}
-use Rattle.pathkeys.specs.Keys.{class_of, column_of, turned, is_equal}
+use Rattle.pathkeys.specs.Keys.{class_of, key_column, turned, is_same_direction}
 use Rattle.plan_tree.specs.Entries.{cell}
 use Rattle.plan_laws.proofs.EachLemmas.{each_snoc, each_weaker}
 use Rattle.plan_laws.proofs.TotalLemmas.{IsUp, up_append}
@@ -139,15 +139,15 @@ class_found t x f n h =
 
 -- what a key column's class is
 abbrev pub KeyClass : ClassTable → ℕ → IndexKey → ℕ → Type 0
-KeyClass t r k n = ClassOf t (column_of r k) (key_family k) n
+KeyClass t r k n = ClassOf t (key_column r k) (key_family k) n
 
 -- its first member in the relation
 pub first_of : (t : ClassTable) (r : ℕ) (k : IndexKey) (n : ℕ) → KeyClass t r k n → (y : ColRef) × (first_in (class_at t.classes n) (one r) ≡ Some y)
-first_of t r k n key = find_more (is_column (column_of r k)) (λ y. one r y.rel.0)
+first_of t r k n key = find_more (is_column (key_column r k)) (λ y. one r y.rel.0)
     (λ y is. let e : r ≡ y.rel.0 = eqb-true r y.rel.0 (and_parts (nat_eq r y.rel.0) (nat_eq k.col.0 y.col.0) is).0 in eq-eqb y.rel.0 r (sym e))
     (class_at t.classes n).members key.member
 
-pub equal_bools : (a b : Bool) → is_equal a b ≡ true → a ≡ b
+pub equal_bools : (a b : Bool) → is_same_direction a b ≡ true → a ≡ b
 equal_bools true true h = refl
 equal_bools true false h = absurd (true≢false (sym h))
 equal_bools false true h = absurd (true≢false (sym h))

@@ -11,7 +11,7 @@ use Rattle.pg_expr.specs.Truths.{truth_at}
 use Rattle.pg_expr.proofs.ColumnLaws.{agree-truth}
 use Rattle.eq_classes.specs.Equality.{is_column}
 use Rattle.eq_classes.specs.Classes.{Class}
-use Rattle.eq_classes.specs.Clauses.{Set, one, first_in, is_first, Source, by_conjunct, by_class, Clause, clause, equals, equals_constant, conjunct_clauses, constant_clauses, inner_clause, inner_clauses, pair_clause, pair_clauses, has_constant, class_clauses, clauses_from, clause_list}
+use Rattle.eq_classes.specs.Clauses.{Set, one, first_in, is_first, ClauseSource, by_conjunct, by_class, Clause, clause, equals, equals_constant, conjunct_clauses, constant_clauses, inner_clause, inner_clauses, pair_clause, pair_clauses, has_constant, class_clauses, clauses_from, clause_list}
 use Rattle.eq_classes.specs.Parts.{union, has_column, is_inside, names_some, is_lowest, are_lowest, is_all_from, is_all, is_base, is_join, is_param, is_left_out, is_join_param}
 use Rattle.eq_classes.specs.Holding.{hold}
 use Rattle.eq_classes.proofs.ListLemmas.{IsIn, Before, in_parts, in_filter, before_filter, earlier_in, later_in, some_same}
@@ -84,11 +84,11 @@ of_made : (set : Set) (chosen : Clause → Bool) (n : ℕ) (c : Class)
     → ((e : Cond) → chosen (clause e (by_class n c)) ≡ true → is_inside set e ≡ true)
     → ((x y : ColRef) → chosen (pair_clause n c x y) ≡ true → is_inside set (equals c x y) ≡ true)
     → (k : Clause) → Made n c k → chosen k ≡ true → is_inside set k.cond ≡ true
-of_made set chosen n c over pairs k (over_one j e) is = over j.cond (ap (λ (s : Source). chosen (clause j.cond s)) (sym e) ∙ is)
+of_made set chosen n c over pairs k (over_one j e) is = over j.cond (ap (λ (s : ClauseSource). chosen (clause j.cond s)) (sym e) ∙ is)
 of_made set chosen n c over pairs k (pair x y before fx fy) is = pairs x y is
 
 over_same : (r : ℕ) (n : ℕ) (c : Class) (k : Clause) → k.source ≡ by_class n c → is_all (one r) k ≡ is_base r k
-over_same r n c k e = ap (λ (s : Source). is_all_from (one r) k.cond s) e
+over_same r n c k e = ap (λ (s : ClauseSource). is_all_from (one r) k.cond s) e
 
 lowest_pair : (s t : Set) (n : ℕ) (c : Class) (x y : ColRef) → are_lowest c s t x.rel.0 y.rel.0 ≡ true → is_inside (union s t) (equals c x y) ≡ true
 lowest_pair s t n c x y h = ⊎_elim

@@ -13,8 +13,8 @@ use Rattle.cost_rules.specs.declared.pair.Pair.{Pair}
 use Rattle.cost_rules.specs.declared.parameters.TheConstants.{MOST_COST}
 use Rattle.eq_classes.specs.Clauses.{Clause, Set}
 use Rattle.eq_classes.specs.Holding.{AreApart, IsWithin}
-use Rattle.eq_classes.specs.Parts.{union, is_join}
-use Rattle.path_cost.specs.Estimates.{conditions_from, conditions_where, is_local, is_number_where, is_pair_of, kept_where, pairs, set_rows, table_pages, table_rows}
+use Rattle.eq_classes.specs.Parts.{union, is_join, is_local}
+use Rattle.path_cost.specs.Estimates.{conditions_from, conditions_where, is_number_where, is_pair_of, kept_where, pairs, set_rows, table_pages, table_rows}
 use Rattle.path_cost.specs.Costs.{bitmap_cost, local_operators, operators, rows_after}
 use Rattle.path_cost.specs.Runs.{runs}
 use Rattle.index_match.specs.Conditions.{conditions_among, is_hash}

@@ -7,10 +7,11 @@ use Rattle.pg_base.specs.declared.numbers.IndexNo.{IndexNo}
 use Rattle.catalog.specs.Contents.{TableDef, NamedIndex, no_index}
 use Rattle.sql_query.specs.Queries.{Query}
 use Rattle.plan_laws.specs.Fewer.{Keeps}
-use Rattle.plan_laws.specs.Moved.{over, is_read, moved, HasPrice, HasNoPlan, added_from}
+use Rattle.plan_laws.specs.Moved.{over, is_read, moved, HasPrice, added_from}
 use Rattle.plan_laws.proofs.ListLemmas.{no, read-alone}
 use Rattle.plan_laws.proofs.TreeLemmas.{keeps}
 use Rattle.plan_laws.proofs.PlanLemmas.{admissible-there, best-there, finished-there, price-there}
+use Rattle.plan_tree.specs.Least.{HasNoPlan}
 
 module _ (tables : List TableDef) (a b : List NamedIndex) (q : Query) (f g : IndexNo → IndexNo) (there : Keeps (over tables a) (over tables b) q f) (back : Keeps (over tables b) (over tables a) q g) where
   pub price-moves : (n : ℕ) → HasPrice (over tables a) q n → HasPrice (over tables b) q n

@@ -16,7 +16,7 @@ use Rattle.sql_query.specs.Worlds.{World, IsWorld}
 use Rattle.plan_tree.specs.index_match_Numbered.{base, conditions_of}
 use Rattle.plan_tree.specs.Entries.{entry_rows}
 use Rattle.plan_tree.specs.Plans.{Plan, seq, index, index_only, bitmap, sort, nest, merge, scan_given, param_in, param_of, is_empty}
-use Rattle.plan_tree.specs.Run.{in_scan_direction, index_rows, joined, run, sorted}
+use Rattle.plan_tree.specs.Run.{in_scan_direction, index_rows, joined_tuples, run, sorted_tuples}
 use Rattle.plan_tree.specs.Space.{IsBuilt}
 use Rattle.plan_laws.specs.Meant.{HaveSameRows, holds_at, tested}
 use Rattle.plan_laws.proofs.BitmapLemmas.{bitmap_means}
@@ -71,6 +71,6 @@ module _ (w : World) (q : Query) (world : IsWorld w) (bound : IsWellBound w.cont
       (bitmap_means w q world r p bits o is.relation is.tree
       ∙ rows_alike r.0 (has p.0) (scan_rows r p same) (row_numbers w q r)
       ∙ sym (bitmap_means w q world r p bits u is.relation is.tree))
-  run_alike (sort keys input) is same = ap (sorted w q input keys) (run_alike input is.0 same)
-  run_alike (nest outer inner) is same = ap (flat_map (λ t. joined w q outer inner t (run w q inner t))) (run_alike outer is.0 (λ k in_it. absurd (true≢false (sym in_it ∙ is.2.sides.outer_whole k))))
-  run_alike (merge keys outer inner) is same = ap (flat_map (λ t. joined w q outer inner t (run w q inner t))) (run_alike outer is.0 (λ k in_it. absurd (true≢false (sym in_it ∙ is.2.sides.outer_whole k))))
+  run_alike (sort keys input) is same = ap (sorted_tuples w q input keys) (run_alike input is.0 same)
+  run_alike (nest outer inner) is same = ap (flat_map (λ t. joined_tuples w q outer inner t (run w q inner t))) (run_alike outer is.0 (λ k in_it. absurd (true≢false (sym in_it ∙ is.2.sides.outer_whole k))))
+  run_alike (merge keys outer inner) is same = ap (flat_map (λ t. joined_tuples w q outer inner t (run w q inner t))) (run_alike outer is.0 (λ k in_it. absurd (true≢false (sym in_it ∙ is.2.sides.outer_whole k))))

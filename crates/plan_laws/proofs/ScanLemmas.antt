@@ -14,7 +14,7 @@ use Rattle.pg_base.specs.declared.numbers.TableNo.{TableNo}
 use Rattle.pg_base.specs.declared.numbers.RelNo.{RelNo}
 use Rattle.pg_base.specs.declared.numbers.IndexNo.{IndexNo}
 use Rattle.pg_base.specs.declared.rel_set.RelSet.{RelSet}
-use Rattle.opfamily.specs.KeyOrder.{Entry, entry_order}
+use Rattle.opfamily.specs.KeyOrder.{IndexEntry, entry_order}
 use Rattle.opfamily.specs.declared.classes.Method.{Method}
 use Rattle.opfamily.specs.declared.classes.Method.TheVariants.{Btree, Hash}
 use Rattle.opfamily.specs.declared.classes.IndexKey.{IndexKey}
@@ -27,7 +27,7 @@ use Rattle.pg_expr.specs.Truths.{truth_at}
 use Rattle.heap.specs.Stored.{Values}
 use Rattle.catalog.specs.Contents.{index_at}
 use Rattle.catalog.specs.Indexes.{Index}
-use Rattle.eq_classes.specs.Clauses.{Set, one, Source, by_conjunct, by_class, by_pair}
+use Rattle.eq_classes.specs.Clauses.{Set, one, ClauseSource, by_conjunct, by_class, by_pair}
 use Rattle.eq_classes.specs.Parts.{union, is_all, is_base, is_param, is_param_from, is_inside, is_lowest, is_relation_of}
 use Rattle.pg_value.specs.Truths.{is_true}
 use Rattle.sql_query.specs.Meaning.{all_true}
@@ -41,7 +41,7 @@ use Rattle.plan_tree.specs.index_match_Usable.{IsUsable}
 use Rattle.plan_tree.specs.Plans.{GivenScan, scan_given, is_empty, empty}
 use Rattle.plan_tree.specs.Bitmaps.{IsIndexOn}
 use Rattle.plan_tree.specs.Entries.{meets_predicate, entry, ordered, entries_over, entry_rows}
-use Rattle.plan_tree.specs.Run.{in_scan_direction, conditions, clauses_at, index_rows}
+use Rattle.plan_tree.specs.Run.{in_scan_direction, index_scan_conditions, clauses_at, index_rows}
 use Rattle.plan_laws.specs.Meant.{holds_at, numbers_of, meant, tested, meant_rows, meant_scan}
 use Rattle.plan_laws.proofs.ClauseLemmas.{one_is_base, local_base}
 use Rattle.plan_laws.proofs.EachLemmas.{each_of}
@@ -84,7 +84,7 @@ find_nothing : (xs : List ColRef) → find (λ x. false) xs ≡ None
 find_nothing [] = refl
 find_nothing (x ∷ xs) = find_nothing xs
 
-no_param_from : (r : ℕ) (e : Cond) (s : Source) → is_param_from r empty e s ≡ false
+no_param_from : (r : ℕ) (e : Cond) (s : ClauseSource) → is_param_from r empty e s ≡ false
 no_param_from r e (by_conjunct n) =
     ap (λ (v : Bool). is_inside (union (one r) empty) e && (names_rel r e && v)) (names_none e)
     ∙ ap (λ (v : Bool). is_inside (union (one r) empty) e && v) (and-false (names_rel r e))
@@ -110,11 +110,11 @@ all_allowed test Hash [] h = refl
 all_allowed test Hash (n ∷ ns) h = and_from (test n.cond) true (and_parts (test n.cond) (list_all test (conditions_of ns)) h).0 refl
 
 -- an index in its order has the rows at which its predicate is True
-Perm-ordered : (m : Method) (ks : List IndexKey) (es : List Entry) → Perm (ordered m ks es) es
+Perm-ordered : (m : Method) (ks : List IndexKey) (es : List IndexEntry) → Perm (ordered m ks es) es
 Perm-ordered Btree ks es = Perm-in_order (entry_order ks) es
 Perm-ordered Hash ks es = Perm-refl es
 
-rows_of_entries : (d : Index) (rows : List Values) (ns : List ℕ) → map (λ (e : Entry). e.row) (map (entry d rows) ns) ≡ ns
+rows_of_entries : (d : Index) (rows : List Values) (ns : List ℕ) → map (λ (e : IndexEntry). e.row) (map (entry d rows) ns) ≡ ns
 rows_of_entries d rows [] = refl
 rows_of_entries d rows (n ∷ ns) = ap (λ (l : List ℕ). n ∷ l) (rows_of_entries d rows ns)
 
@@ -146,9 +146,9 @@ module _ (w : World) (q : Query) where
       let d = index_at w.contents i in
       let rows = rows_of_relation w q r in
       let ns = filter (meets_at r i) (row_numbers w q r) in
-      subst (λ (t : TableNo). Perm (map (λ (e : Entry). e.row) (entries_over d (stored_at w t).rows)) ns) (sym is.table)
-      (subst (λ (l : List ℕ). Perm (map (λ (e : Entry). e.row) (entries_over d rows)) l) (rows_of_entries d rows ns)
-      (Perm-map (λ (e : Entry). e.row) (entries_over d rows) (map (entry d rows) ns) (Perm-ordered d.method d.keys (map (entry d rows) ns))))
+      subst (λ (t : TableNo). Perm (map (λ (e : IndexEntry). e.row) (entries_over d (stored_at w t).rows)) ns) (sym is.table)
+      (subst (λ (l : List ℕ). Perm (map (λ (e : IndexEntry). e.row) (entries_over d rows)) l) (rows_of_entries d rows ns)
+      (Perm-map (λ (e : IndexEntry). e.row) (entries_over d rows) (map (entry d rows) ns) (Perm-ordered d.method d.keys (map (entry d rows) ns))))
 
   pub clauses_hold : (r : RelNo) (p : RelSet) (o : Tuple) (row : ℕ) → all_true w q (beside q r.0 row o) (clauses_at w q r p) ≡ holds_at w q (beside q r.0 row o) (tested w q r.0 (has p.0))
   clauses_hold r p o row = those_hold w q (beside q r.0 row o) (tested w q r.0 (has p.0))
@@ -156,7 +156,7 @@ module _ (w : World) (q : Query) where
   pub base_of_tested : (r : ℕ) (p : Set) (t : Tuple) → holds_at w q t (tested w q r p) ≡ true → holds_at w q t (is_base r) ≡ true
   base_of_tested r p t h = (and_parts (holds_at w q t (is_base r)) (holds_at w q t (is_param r p)) (sym (hold_either (value_at w q t) (is_base r) (is_param r p) q.classes.clauses) ∙ h)).0
 
-  pub conditions_hold : (r : RelNo) (i : IndexNo) (p : RelSet) (t : Tuple) → all_true w q t (clauses_at w q r p) ≡ true → all_true w q t (conditions w q r i p) ≡ true
+  pub conditions_hold : (r : RelNo) (i : IndexNo) (p : RelSet) (t : Tuple) → all_true w q t (clauses_at w q r p) ≡ true → all_true w q t (index_scan_conditions w q r i p) ≡ true
   conditions_hold r i p t h =
       let test = λ (e : Cond). is_true (truth_at (value_at w q t) e) in
       let cs = local q.classes r.0 (has p.0) in
@@ -168,7 +168,7 @@ module _ (w : World) (q : Query) where
       → index_rows w q r i backward p o ≡ filter (λ row. holds_at w q (beside q r.0 row o) (tested w q r.0 (has p.0))) (in_scan_direction w q backward (entry_rows w i))
   index_rows_are r i backward p o =
       let clause = λ (row : ℕ). all_true w q (beside q r.0 row o) (clauses_at w q r p) in
-      let condition = λ (row : ℕ). all_true w q (beside q r.0 row o) (conditions w q r i p) in
+      let condition = λ (row : ℕ). all_true w q (beside q r.0 row o) (index_scan_conditions w q r i p) in
       let es = in_scan_direction w q backward (entry_rows w i) in
       ap (filter clause) (directed_filter w q backward condition (entry_rows w i))
       ∙ filter_follows clause condition es (each_of (λ (row : ℕ). clause row ≡ true → condition row ≡ true) (λ row h. conditions_hold r i p (beside q r.0 row o) h) es)

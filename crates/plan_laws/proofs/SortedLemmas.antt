@@ -25,7 +25,7 @@ use Rattle.pathkeys.specs.Keys.{Keys}
 use Rattle.pathkeys.specs.Sorted.{class_order, order_at}
 use Rattle.plan_tree.specs.Keys.{keys_of, scan_keys}
 use Rattle.plan_tree.specs.Plans.{Plan, seq, index, index_only, bitmap, sort, nest, merge, set_of, is_sort, is_empty, joins}
-use Rattle.plan_tree.specs.Run.{run, joined, index_rows, tuples}
+use Rattle.plan_tree.specs.Run.{run, joined_tuples, index_rows, tuples}
 use Rattle.plan_tree.specs.Sorted.{AreSorted}
 use Rattle.plan_tree.specs.Space.{IsBuilt, IsIndexScan, HasKeys}
 use Rattle.plan_laws.specs.Meant.{HaveSameRows, holds_at, meant}
@@ -133,18 +133,18 @@ module _ (w : World) (q : Query) where
     all_hold_in p means o = each_meant w q world bound (set_of p) (run w q p o) (means o)
 
     join_up : (outer inner : Plan) (o : Tuple) → IsOfQuery w q (set_of outer) → AreKeys q.classes (set_of outer) (keys_of w.contents q outer)
-        → AllByRecursion (λ x. holds_at w q x (is_all (union (set_of outer) (set_of inner))) ≡ true) (flat_map (λ t. joined w q outer inner t (run w q inner t)) (run w q outer o))
+        → AllByRecursion (λ x. holds_at w q x (is_all (union (set_of outer) (set_of inner))) ≡ true) (flat_map (λ t. joined_tuples w q outer inner t (run w q inner t)) (run w q outer o))
         → IsUp (by_keys w q (set_of outer) (keys_of w.contents q outer)) (run w q outer o)
-        → IsUp (by_keys w q (union (set_of outer) (set_of inner)) (keys_of w.contents q outer)) (flat_map (λ t. joined w q outer inner t (run w q inner t)) (run w q outer o))
+        → IsUp (by_keys w q (union (set_of outer) (set_of inner)) (keys_of w.contents q outer)) (flat_map (λ t. joined_tuples w q outer inner t (run w q inner t)) (run w q outer o))
     join_up outer inner o of keys hold_all up =
         let a = set_of outer in
         let b = set_of inner in
         let ks = keys_of w.contents q outer in
-        blocks_up (by_keys w q a ks) (by_keys w q (union a b) ks) (Stands a b) (λ t. joined w q outer inner t (run w q inner t))
+        blocks_up (by_keys w q a ks) (by_keys w q (union a b) ks) (Stands a b) (λ t. joined_tuples w q outer inner t (run w q inner t))
         (itself (by_keys w q a ks) (keys_total (value_at w q) q.classes a ks))
         (λ t u x y s r. keys_alike a b ks keys t u x y s r)
         (run w q outer o) up
-        (blocks_stand a b (λ t. joined w q outer inner t (run w q inner t)) (λ t. merged_each a of t (λ x. all_true w q x (conditions_of (those q.classes (joins a inner)))) (run w q inner t)) (run w q outer o) hold_all)
+        (blocks_stand a b (λ t. joined_tuples w q outer inner t (run w q inner t)) (λ t. merged_each a of t (λ x. all_true w q x (conditions_of (those q.classes (joins a inner)))) (run w q inner t)) (run w q outer o) hold_all)
 
     pub up_by_keys : (p : Plan) → IsBuilt w.contents q p → (o : Tuple) → IsUp (by_keys w q (set_of p) (keys_of w.contents q p)) (run w q p o)
     up_by_keys (seq r) is o = no_keys_up w q (one r.0) (run w q (seq r) o)

@@ -13,11 +13,11 @@ ghost use Rattle.path_cost.specs.Selectivity.{weights};
 ghost use Rattle.sql_query.specs.Queries.{Query};
 ghost use Rattle.sql_query.specs.WellBound.{IsWellBound};
 ghost use Rattle.plan_tree.specs.Costs.{cost, price, scan_cost};
-ghost use Rattle.plan_tree.specs.Least.{IsBestPlan};
+ghost use Rattle.plan_tree.specs.Least.{IsBestPlan, HasNoPlan};
 ghost use Rattle.plan_tree.specs.Plans.{Plan};
 ghost use Rattle.plan_tree.specs.Space.{IsFinished};
 ghost use Rattle.plan_laws.specs.Fewer.{HasRoom, KeepsRead};
-ghost use Rattle.plan_laws.specs.Moved.{HasNoPlan, HasPrice, Moves, added_from, is_read, moved, over};
+ghost use Rattle.plan_laws.specs.Moved.{HasPrice, Moves, added_from, is_read, moved, over};
 
 /// The estimated rows after conditions read no index.
 pub fn estimates_read_no_index()

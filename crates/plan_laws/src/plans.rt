@@ -12,7 +12,7 @@ ghost use Rattle.sql_query.specs.WellBound.{IsWellBound};
 ghost use Rattle.sql_query.specs.Worlds.{World, IsWorld};
 ghost use Rattle.plan_tree.specs.pathkeys_Keys.{Keys};
 ghost use Rattle.plan_tree.specs.Plans.{Plan, GivenScan, nest, merge, empty, set_of, given_scan, param_of};
-ghost use Rattle.plan_tree.specs.Run.{joined, run};
+ghost use Rattle.plan_tree.specs.Run.{joined_tuples, run};
 ghost use Rattle.plan_tree.specs.Space.{IsBuilt, IsEmpty, IsFinished, IsPlanOf};
 ghost use Rattle.plan_laws.specs.Meant.{HaveSameRows, holds_at, meant, meant_scan, joined_with};
 
@@ -48,17 +48,17 @@ pub fn joins_leave_out_what_holds()
     ensures nest { (w : World) (q : Query) (outer inner : Plan) (t : Tuple) → IsWorld w →
         IsWellBound w.contents q → IsBuilt w.contents q (nest outer inner) →
         holds_at w q t (is_all (set_of outer)) ≡ true →
-        joined w q outer inner t (run w q inner t) ≡
+        joined_tuples w q outer inner t (run w q inner t) ≡
         joined_with w q (set_of outer) (set_of inner) t (run w q inner t) }
     ensures merge { (w : World) (q : Query) (keys : Keys) (outer inner : Plan) (t : Tuple) →
         IsWorld w → IsWellBound w.contents q → IsBuilt w.contents q (merge keys outer inner) →
         holds_at w q t (is_all (set_of outer)) ≡ true →
-        joined w q outer inner t (run w q inner t) ≡
+        joined_tuples w q outer inner t (run w q inner t) ≡
         joined_with w q (set_of outer) (set_of inner) t (run w q inner t) }
     ensures rows { (w : World) (q : Query) (outer inner : Plan) (t : Tuple) → IsWorld w →
         IsWellBound w.contents q → IsBuilt w.contents q (nest outer inner) →
         holds_at w q t (is_all (set_of outer)) ≡ true →
-        IsPermutation (joined w q outer inner t (run w q inner t))
+        IsPermutation (joined_tuples w q outer inner t (run w q inner t))
         (joined_with w q (set_of outer) (set_of inner) t (meant w q (set_of inner))) }
     ensures outer { (w : World) (q : Query) (p : Plan) (o : Tuple) → IsWorld w →
         IsWellBound w.contents q → IsBuilt w.contents q p → IsEmpty (param_of p) →

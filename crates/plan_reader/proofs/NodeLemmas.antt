@@ -16,7 +16,7 @@ use Rattle.plan_tree.specs.Plans.{Plan, seq, index, index_only, bitmap, sort, ne
 use Rattle.plan_lines.specs.explain_Texts.{bits_text, figures_text, keys_text, lead, rel_text, scanned_text, title}
 use Rattle.std.specs.Fmt.{decimal}
 use Rattle.plan_lines.specs.certificate_text_HasText.{HasKeysText}
-use Rattle.plan_space.specs.Numbered.{Pair, nodes}
+use Rattle.plan_space.specs.Numbered.{CostAndRows, nodes}
 use Rattle.plan_lines.specs.Parts.{IsShallow}
 use Rattle.plan_lines.specs.declared.kinds.Kind.{Kind}
 use Rattle.plan_lines.specs.declared.kinds.Kind.TheVariants as kinds
@@ -130,75 +130,75 @@ stands-low d (sort k x) h = h.0
 stands-low d (nest x y) h = h.0
 stands-low d (merge k x y) h = h.0
 
-no-pairs : (ns : List Pair) → length ns + 1 ≡ 1 → ns ≡ []
+no-pairs : (ns : List CostAndRows) → length ns + 1 ≡ 1 → ns ≡ []
 no-pairs [] h = refl
 no-pairs (n ∷ ns) h = absurd (omega (arith, h))
 
 module _ (c : Contents) (q : Query) where
   -- behind the first line of a plan
-  abbrev pub IsBeneath : ℕ → List ℕ → List ℕ → List ℕ → List Pair → List Pair → Option Plan → Plan → Type 0
-  IsBeneath d behind old new before after o p = (ns : List Pair) (rest : List ℕ) → behind ≡ behind_words c q p → IsText c q p → StandsAt d p →
+  abbrev pub IsBeneath : ℕ → List ℕ → List ℕ → List ℕ → List CostAndRows → List CostAndRows → Option Plan → Plan → Type 0
+  IsBeneath d behind old new before after o p = (ns : List CostAndRows) (rest : List ℕ) → behind ≡ behind_words c q p → IsText c q p → StandsAt d p →
       length ns + 1 ≡ nodes p → All Fits ns → IsShallow d rest → old ≡ written_beneath c q d p ns ++ rest → (o ≡ Some p) × (after ≡ before ++ ns) × (new ≡ rest)
 
-  abbrev pub AreBeneath : ℕ → Kind → List ℕ → List ℕ → List ℕ → List Pair → List Pair → Option Plan → Type 0
+  abbrev pub AreBeneath : ℕ → Kind → List ℕ → List ℕ → List ℕ → List CostAndRows → List CostAndRows → Option Plan → Type 0
   AreBeneath d kind behind old new before after o = (p : Plan) → kind_of p ≡ kind → IsBeneath d behind old new before after o p
 
   abbrev pub IsFirst : ℕ → List ℕ → List ℕ → Option NodeLine → Type 0
-  IsFirst d old mid res = (p : Plan) (n : Pair) (rest : List ℕ) → IsText c q p → Fits n → old ≡ line_with c q d p n ++ rest → IsSomeAnd res (λ l. IsLineOf l (kind_of p) (behind_words c q p) n) × (mid ≡ rest)
+  IsFirst d old mid res = (p : Plan) (n : CostAndRows) (rest : List ℕ) → IsText c q p → Fits n → old ≡ line_with c q d p n ++ rest → IsSomeAnd res (λ l. IsLineOf l (kind_of p) (behind_words c q p) n) × (mid ≡ rest)
 
-  first-parts : (d : ℕ) (old mid : List ℕ) (res : Option NodeLine) (p : Plan) (n : Pair) (ns : List Pair) (rest : List ℕ) → IsFirst d old mid res → IsText c q p → All Fits (n ∷ ns) → old ≡ written_at c q d p (n ∷ ns) ++ rest →
+  first-parts : (d : ℕ) (old mid : List ℕ) (res : Option NodeLine) (p : Plan) (n : CostAndRows) (ns : List CostAndRows) (rest : List ℕ) → IsFirst d old mid res → IsText c q p → All Fits (n ∷ ns) → old ≡ written_at c q d p (n ∷ ns) ++ rest →
       IsSomeAnd res (λ l. IsLineOf l (kind_of p) (behind_words c q p) n) × (mid ≡ written_beneath c q d p ns ++ rest)
   first-parts d old mid res p n ns rest first text fits e =
       first p n (written_beneath c q d p ns ++ rest) text (All-head Fits n ns fits) (e ∙ append_assoc (line_with c q d p n) (written_beneath c q d p ns) rest)
 
   -- no first line comes next
-  pub no-first : (d : ℕ) (old mid : List ℕ) (before after : List Pair) (res : Option NodeLine) → IsFirst d old mid res → res ≡ None → IsRead c q d old mid before after None
+  pub no-first : (d : ℕ) (old mid : List ℕ) (before after : List CostAndRows) (res : Option NodeLine) → IsFirst d old mid res → res ≡ None → IsRead c q d old mid before after None
   no-first d old mid before after res first none p [] rest text stands count fits shallow e = let some = nodes-some p in absurd (omega (arith, some, count))
   no-first d old mid before after res first none p (n ∷ ns) rest text stands count fits shallow e =
       absurd (subst (λ (o : Option NodeLine). IsSomeAnd o (λ l. IsLineOf l (kind_of p) (behind_words c q p) n)) none (first-parts d old mid res p n ns rest first text fits e).0)
 
   -- a node stands too deep
-  pub too-deep : (d : ℕ) (old new : List ℕ) (before after : List Pair) → 64 < d → IsRead c q d old new before after None
+  pub too-deep : (d : ℕ) (old new : List ℕ) (before after : List CostAndRows) → 64 < d → IsRead c q d old new before after None
   too-deep d old new before after deep p ns rest text stands count fits shallow e = let low = stands-low d p stands in absurd (omega (arith, low, deep))
 
   -- a first line, and what stands beneath it
-  pub node-read : (d : ℕ) (old mid new : List ℕ) (before middle after : List Pair) (res : Option NodeLine) (l : NodeLine) (o : Option Plan) → IsFirst d old mid res → res ≡ Some l → middle ≡ before ++ l.numbers ∷ [] →
+  pub node-read : (d : ℕ) (old mid new : List ℕ) (before middle after : List CostAndRows) (res : Option NodeLine) (l : NodeLine) (o : Option Plan) → IsFirst d old mid res → res ≡ Some l → middle ≡ before ++ l.numbers ∷ [] →
       AreBeneath d l.kind l.behind.now mid new middle after o → IsRead c q d old new before after o
   node-read d old mid new before middle after res l o first found is beneath p [] rest text stands count fits shallow e = let some = nodes-some p in absurd (omega (arith, some, count))
   node-read d old mid new before middle after res l o first found is beneath p (n ∷ ns) rest text stands count fits shallow e =
       let f = first-parts d old mid res p n ns rest first text fits e in
       let line : IsLineOf l (kind_of p) (behind_words c q p) n = subst (λ (x : Option NodeLine). IsSomeAnd x (λ y. IsLineOf y (kind_of p) (behind_words c q p) n)) found f.0 in
       let r = beneath p (sym line.0) ns rest line.1 text stands (let k = count in omega (arith, k)) (All-tail Fits n ns fits) shallow f.1 in
-      (r.0, r.1 ∙ (ap (λ (m : List Pair). m ++ ns) is ∙ (append_assoc before (l.numbers ∷ []) ns ∙ ap (λ (x : Pair). before ++ x ∷ ns) line.2)), r.2)
+      (r.0, r.1 ∙ (ap (λ (m : List CostAndRows). m ++ ns) is ∙ (append_assoc before (l.numbers ∷ []) ns ∙ ap (λ (x : CostAndRows). before ++ x ∷ ns) line.2)), r.2)
 
   -- what is read beneath the first lines of plans of each kind
-  pub seq-beneath : (d : ℕ) (kind : Kind) (behind at : List ℕ) (numbers : List Pair) (o : Option Plan) → kind ≡ kinds.Seq → ((r : RelNo) → r.0 < width q → behind ≡ rel_text c q r → o ≡ Some (seq r)) →
+  pub seq-beneath : (d : ℕ) (kind : Kind) (behind at : List ℕ) (numbers : List CostAndRows) (o : Option Plan) → kind ≡ kinds.Seq → ((r : RelNo) → r.0 < width q → behind ≡ rel_text c q r → o ≡ Some (seq r)) →
       AreBeneath d kind behind at at numbers numbers o
   seq-beneath d kind behind at numbers o is reads p k =
-      at-seq (IsBeneath d behind at at numbers numbers o) (λ r ns rest b text stands count fits shallow e. (reads r text b, sym (ap (λ (l : List Pair). numbers ++ l) (no-pairs ns count) ∙ append-nil numbers), e)) p (k ∙ is)
+      at-seq (IsBeneath d behind at at numbers numbers o) (λ r ns rest b text stands count fits shallow e. (reads r text b, sym (ap (λ (l : List CostAndRows). numbers ++ l) (no-pairs ns count) ∙ append-nil numbers), e)) p (k ∙ is)
 
-  pub index-beneath : (d : ℕ) (kind : Kind) (behind at : List ℕ) (numbers : List Pair) (o : Option Plan) → kind ≡ kinds.Index →
+  pub index-beneath : (d : ℕ) (kind : Kind) (behind at : List ℕ) (numbers : List CostAndRows) (o : Option Plan) → kind ≡ kinds.Index →
       ((s : IndexScan) → IsIndexScan c q s → behind ≡ indexed_text c q s → o ≡ Some (index s.rel s.index s.backward s.param)) → AreBeneath d kind behind at at numbers numbers o
   index-beneath d kind behind at numbers o is reads p k =
       at-index (IsBeneath d behind at at numbers numbers o)
-      (λ r i b s ns rest w text stands count fits shallow e. (reads (record { rel = r; index = i; backward = b; param = s }) text w, sym (ap (λ (l : List Pair). numbers ++ l) (no-pairs ns count) ∙ append-nil numbers), e)) p (k ∙ is)
+      (λ r i b s ns rest w text stands count fits shallow e. (reads (record { rel = r; index = i; backward = b; param = s }) text w, sym (ap (λ (l : List CostAndRows). numbers ++ l) (no-pairs ns count) ∙ append-nil numbers), e)) p (k ∙ is)
 
-  pub index-only-beneath : (d : ℕ) (kind : Kind) (behind at : List ℕ) (numbers : List Pair) (o : Option Plan) → kind ≡ kinds.IndexOnly →
+  pub index-only-beneath : (d : ℕ) (kind : Kind) (behind at : List ℕ) (numbers : List CostAndRows) (o : Option Plan) → kind ≡ kinds.IndexOnly →
       ((s : IndexScan) → IsIndexScan c q s → behind ≡ indexed_text c q s → o ≡ Some (index_only s.rel s.index s.backward s.param)) → AreBeneath d kind behind at at numbers numbers o
   index-only-beneath d kind behind at numbers o is reads p k =
       at-index-only (IsBeneath d behind at at numbers numbers o)
-      (λ r i b s ns rest w text stands count fits shallow e. (reads (record { rel = r; index = i; backward = b; param = s }) text w, sym (ap (λ (l : List Pair). numbers ++ l) (no-pairs ns count) ∙ append-nil numbers), e)) p (k ∙ is)
+      (λ r i b s ns rest w text stands count fits shallow e. (reads (record { rel = r; index = i; backward = b; param = s }) text w, sym (ap (λ (l : List CostAndRows). numbers ++ l) (no-pairs ns count) ∙ append-nil numbers), e)) p (k ∙ is)
 
-  pub bitmap-beneath : (d : ℕ) (kind : Kind) (behind at new : List ℕ) (numbers : List Pair) (o : Option Plan) → kind ≡ kinds.Bitmap →
+  pub bitmap-beneath : (d : ℕ) (kind : Kind) (behind at new : List ℕ) (numbers : List CostAndRows) (o : Option Plan) → kind ≡ kinds.Bitmap →
       ((r : RelNo) (p : RelSet) (b : BitTree) (rest : List ℕ) → IsScanned c q r p → HasBits c q b → Stands (d + 1) b → IsShallow (d + 1) rest → behind ≡ scanned_text c q r p → at ≡ bits_text c q (d + 1) b ++ rest →
       (o ≡ Some (bitmap r p b)) × (new ≡ rest)) → AreBeneath d kind behind at new numbers numbers o
   bitmap-beneath d kind behind at new numbers o is reads p k =
       at-bitmap (IsBeneath d behind at new numbers numbers o)
       (λ r s t ns rest w text stands count fits shallow e.
       let found = reads r s t rest text.0 text.1 stands.1 (shallow-more d rest shallow) w e in
-      (found.0, sym (ap (λ (l : List Pair). numbers ++ l) (no-pairs ns count) ∙ append-nil numbers), found.1)) p (k ∙ is)
+      (found.0, sym (ap (λ (l : List CostAndRows). numbers ++ l) (no-pairs ns count) ∙ append-nil numbers), found.1)) p (k ∙ is)
 
-  pub sort-beneath : (d : ℕ) (kind : Kind) (behind at new : List ℕ) (before after : List Pair) (i : Option Plan) (input : Plan) (o : Option Plan) → kind ≡ kinds.Sort → IsRead c q (d + 1) at new before after i → i ≡ Some input →
+  pub sort-beneath : (d : ℕ) (kind : Kind) (behind at new : List ℕ) (before after : List CostAndRows) (i : Option Plan) (input : Plan) (o : Option Plan) → kind ≡ kinds.Sort → IsRead c q (d + 1) at new before after i → i ≡ Some input →
       ((keys : Keys) → HasKeysText q (set_of input) keys → behind ≡ keys_text c q (set_of input) keys → o ≡ Some (sort keys input)) → AreBeneath d kind behind at new before after o
   sort-beneath d kind behind at new before after i input o is read found reads p k =
       at-sort (IsBeneath d behind at new before after o)
@@ -208,7 +208,7 @@ module _ (c : Contents) (q : Query) where
       let made : o ≡ Some (sort ks input) = reads ks (subst (λ (y : Plan). HasKeysText q (set_of y) ks) same text.1) (w ∙ ap (λ (y : Plan). keys_text c q (set_of y) ks) same) in
       (made ∙ ap (λ (y : Plan). Some (sort ks y)) (sym same), r.1, r.2)) p (k ∙ is)
 
-  pub sort-none : (d : ℕ) (kind : Kind) (behind at new : List ℕ) (before after : List Pair) (i : Option Plan) → kind ≡ kinds.Sort → IsRead c q (d + 1) at new before after i → i ≡ None →
+  pub sort-none : (d : ℕ) (kind : Kind) (behind at new : List ℕ) (before after : List CostAndRows) (i : Option Plan) → kind ≡ kinds.Sort → IsRead c q (d + 1) at new before after i → i ≡ None →
       AreBeneath d kind behind at new before after None
   sort-none d kind behind at new before after i is read none p k =
       at-sort (IsBeneath d behind at new before after None)
@@ -216,7 +216,7 @@ module _ (c : Contents) (q : Query) where
       let r = read x ns rest text.0 stands.1 (let n = count in omega (arith, n)) fits (shallow-more d rest shallow) e in
       absurd (none-some x (sym none ∙ r.0))) p (k ∙ is)
 
-  pub nest-beneath : (d : ℕ) (kind : Kind) (behind at new : List ℕ) (before after : List Pair) (i : Option (Plan × Plan)) (outer inner : Plan) (o : Option Plan) → kind ≡ kinds.Nest → AreRead c q d at new before after i → i ≡ Some (outer, inner) →
+  pub nest-beneath : (d : ℕ) (kind : Kind) (behind at new : List ℕ) (before after : List CostAndRows) (i : Option (Plan × Plan)) (outer inner : Plan) (o : Option Plan) → kind ≡ kinds.Nest → AreRead c q d at new before after i → i ≡ Some (outer, inner) →
       o ≡ Some (nest outer inner) → AreBeneath d kind behind at new before after o
   nest-beneath d kind behind at new before after i outer inner o is read found made p k =
       at-nest (IsBeneath d behind at new before after o)
@@ -225,14 +225,14 @@ module _ (c : Contents) (q : Query) where
       let same : (x, y) ≡ (outer, inner) = same_Some {A = Plan × Plan} (x, y) (outer, inner) (sym r.0 ∙ found) in
       (made ∙ sym (ap (λ (s : Plan × Plan). Some (nest s.0 s.1)) same), r.1, r.2)) p (k ∙ is)
 
-  pub nest-none : (d : ℕ) (kind : Kind) (behind at new : List ℕ) (before after : List Pair) (i : Option (Plan × Plan)) → kind ≡ kinds.Nest → AreRead c q d at new before after i → i ≡ None → AreBeneath d kind behind at new before after None
+  pub nest-none : (d : ℕ) (kind : Kind) (behind at new : List ℕ) (before after : List CostAndRows) (i : Option (Plan × Plan)) → kind ≡ kinds.Nest → AreRead c q d at new before after i → i ≡ None → AreBeneath d kind behind at new before after None
   nest-none d kind behind at new before after i is read none p k =
       at-nest (IsBeneath d behind at new before after None)
       (λ x y ns rest w text stands count fits shallow e.
       let r = read x y ns rest text.0 text.1 stands.1 stands.2 (let n = count in omega (arith, n)) fits shallow e in
       absurd (none-some {A = Plan × Plan} (x, y) (sym none ∙ r.0))) p (k ∙ is)
 
-  pub merge-beneath : (d : ℕ) (kind : Kind) (behind at new : List ℕ) (before after : List Pair) (i : Option (Plan × Plan)) (outer inner : Plan) (o : Option Plan) → kind ≡ kinds.Merge → AreRead c q d at new before after i → i ≡ Some (outer, inner) →
+  pub merge-beneath : (d : ℕ) (kind : Kind) (behind at new : List ℕ) (before after : List CostAndRows) (i : Option (Plan × Plan)) (outer inner : Plan) (o : Option Plan) → kind ≡ kinds.Merge → AreRead c q d at new before after i → i ≡ Some (outer, inner) →
       ((keys : Keys) → HasKeysText q (union (set_of outer) (set_of inner)) keys → behind ≡ keys_text c q (union (set_of outer) (set_of inner)) keys → o ≡ Some (merge keys outer inner)) → AreBeneath d kind behind at new before after o
   merge-beneath d kind behind at new before after i outer inner o is read found reads p k =
       at-merge (IsBeneath d behind at new before after o)
@@ -243,7 +243,7 @@ module _ (c : Contents) (q : Query) where
       reads ks (subst (λ (s : Plan × Plan). HasKeysText q (union (set_of s.0) (set_of s.1)) ks) same text.2) (w ∙ ap (λ (s : Plan × Plan). keys_text c q (union (set_of s.0) (set_of s.1)) ks) same) in
       (made ∙ sym (ap (λ (s : Plan × Plan). Some (merge ks s.0 s.1)) same), r.1, r.2)) p (k ∙ is)
 
-  pub merge-none : (d : ℕ) (kind : Kind) (behind at new : List ℕ) (before after : List Pair) (i : Option (Plan × Plan)) → kind ≡ kinds.Merge → AreRead c q d at new before after i → i ≡ None → AreBeneath d kind behind at new before after None
+  pub merge-none : (d : ℕ) (kind : Kind) (behind at new : List ℕ) (before after : List CostAndRows) (i : Option (Plan × Plan)) → kind ≡ kinds.Merge → AreRead c q d at new before after i → i ≡ None → AreBeneath d kind behind at new before after None
   merge-none d kind behind at new before after i is read none p k =
       at-merge (IsBeneath d behind at new before after None)
       (λ ks x y ns rest w text stands count fits shallow e.
@@ -251,14 +251,14 @@ module _ (c : Contents) (q : Query) where
       absurd (none-some {A = Plan × Plan} (x, y) (sym none ∙ r.0))) p (k ∙ is)
 
   -- the lines of a plan one deeper
-  written-shallow : (d : ℕ) (p : Plan) (ns : List Pair) (rest : List ℕ) → IsShallow (d + 1) (written_at c q (d + 1) p ns ++ rest)
+  written-shallow : (d : ℕ) (p : Plan) (ns : List CostAndRows) (rest : List ℕ) → IsShallow (d + 1) (written_at c q (d + 1) p ns ++ rest)
   written-shallow d p ns rest = by (line_with c q (d + 1) p (first_pair ns)) (title c q p ++ figures_text (decimal (first_pair ns).0) (first_pair ns).1) (written_beneath c q (d + 1) p (later_pairs ns)) refl
     where
       by : (line t below : List ℕ) → line ≡ lead (d + 1) ++ t → IsShallow (d + 1) ((line ++ below) ++ rest)
       by line t below e = subst (IsShallow (d + 1)) (sym (append_assoc line below rest ∙ (ap (λ (l : List ℕ). l ++ (below ++ rest)) e ∙ append_assoc (lead (d + 1)) t (below ++ rest)))) (line-shallow d (t ++ (below ++ rest)))
 
   -- what is known behind an outer side
-  outer-read : (d : ℕ) (old mid : List ℕ) (before middle : List Pair) (o : Option Plan) (x y : Plan) (ns : List Pair) (rest : List ℕ) → IsRead c q (d + 1) old mid before middle o → IsText c q x → StandsAt (d + 1) x →
+  outer-read : (d : ℕ) (old mid : List ℕ) (before middle : List CostAndRows) (o : Option Plan) (x y : Plan) (ns : List CostAndRows) (rest : List ℕ) → IsRead c q (d + 1) old mid before middle o → IsText c q x → StandsAt (d + 1) x →
       length ns ≡ nodes x + nodes y → All Fits ns → old ≡ written_beneath c q d (nest x y) ns ++ rest →
       (o ≡ Some x) × (middle ≡ before ++ take (nodes x) ns) × (mid ≡ written_at c q (d + 1) y (drop (nodes x) ns) ++ rest)
   outer-read d old mid before middle o x y ns rest read text stands count fits e =
@@ -266,7 +266,7 @@ module _ (c : Contents) (q : Query) where
       read x (take (nodes x) ns) (second ++ rest) text stands (length-take-le (nodes x) ns (omega (arith, count))) (All-take Fits (nodes x) ns fits) (written-shallow d y (drop (nodes x) ns) rest)
       (e ∙ append_assoc (written_at c q (d + 1) x (take (nodes x) ns)) second rest)
 
-  pub pair-read : (d : ℕ) (old mid new : List ℕ) (before middle after : List Pair) (a b : Option Plan) (outer inner : Plan) → IsRead c q (d + 1) old mid before middle a → a ≡ Some outer → IsRead c q (d + 1) mid new middle after b → b ≡ Some inner →
+  pub pair-read : (d : ℕ) (old mid new : List ℕ) (before middle after : List CostAndRows) (a b : Option Plan) (outer inner : Plan) → IsRead c q (d + 1) old mid before middle a → a ≡ Some outer → IsRead c q (d + 1) mid new middle after b → b ≡ Some inner →
       AreRead c q d old new before after (Some (outer, inner))
   pair-read d old mid new before middle after a b outer inner first fa second fb x y ns rest tx ty sx sy count fits shallow e =
       let one = outer-read d old mid before middle a x y ns rest first tx sx count fits e in
@@ -274,14 +274,14 @@ module _ (c : Contents) (q : Query) where
       let two = second y (drop (nodes x) ns) rest ty sy long (All-drop Fits (nodes x) ns fits) (shallow-more d rest shallow) one.2 in
       let left : outer ≡ x = same_Some outer x (sym fa ∙ one.0) in
       let right : inner ≡ y = same_Some inner y (sym fb ∙ two.0) in
-      (λ t. Some (left t, right t), two.1 ∙ (ap (λ (l : List Pair). l ++ drop (nodes x) ns) one.1 ∙ (append_assoc before (take (nodes x) ns) (drop (nodes x) ns) ∙ ap (λ (l : List Pair). before ++ l) (take-append-drop (nodes x) ns))), two.2)
+      (λ t. Some (left t, right t), two.1 ∙ (ap (λ (l : List CostAndRows). l ++ drop (nodes x) ns) one.1 ∙ (append_assoc before (take (nodes x) ns) (drop (nodes x) ns) ∙ ap (λ (l : List CostAndRows). before ++ l) (take-append-drop (nodes x) ns))), two.2)
 
-  pub no-outer : (d : ℕ) (old mid : List ℕ) (before middle : List Pair) (a : Option Plan) → IsRead c q (d + 1) old mid before middle a → a ≡ None → AreRead c q d old mid before middle None
+  pub no-outer : (d : ℕ) (old mid : List ℕ) (before middle : List CostAndRows) (a : Option Plan) → IsRead c q (d + 1) old mid before middle a → a ≡ None → AreRead c q d old mid before middle None
   no-outer d old mid before middle a first none x y ns rest tx ty sx sy count fits shallow e =
       let one = outer-read d old mid before middle a x y ns rest first tx sx count fits e in
       absurd (none-some x (sym none ∙ one.0))
 
-  pub no-inner : (d : ℕ) (old mid new : List ℕ) (before middle after : List Pair) (a b : Option Plan) → IsRead c q (d + 1) old mid before middle a → IsRead c q (d + 1) mid new middle after b → b ≡ None → AreRead c q d old new before after None
+  pub no-inner : (d : ℕ) (old mid new : List ℕ) (before middle after : List CostAndRows) (a b : Option Plan) → IsRead c q (d + 1) old mid before middle a → IsRead c q (d + 1) mid new middle after b → b ≡ None → AreRead c q d old new before after None
   no-inner d old mid new before middle after a b first second none x y ns rest tx ty sx sy count fits shallow e =
       let one = outer-read d old mid before middle a x y ns rest first tx sx count fits e in
       let long : length (drop (nodes x) ns) ≡ nodes y = let l = length-drop (nodes x) ns in omega (arith, l, count) in

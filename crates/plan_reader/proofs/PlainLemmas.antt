@@ -30,7 +30,7 @@ use Rattle.plan_lines.specs.explain_Texts.{aliases_in, column_text, direction_te
 use Rattle.plan_lines.specs.certificate_text_HasText.{HasKeysText}
 use Rattle.pg_base.proofs.NameLemmas.{name-word}
 use Rattle.plan_lines.specs.certificate_entries_NameLemmas.{index-word}
-use Rattle.plan_space.specs.Numbered.{Pair}
+use Rattle.plan_space.specs.Numbered.{CostAndRows}
 use Rattle.plan_lines.specs.Kinds.{words}
 use Rattle.plan_lines.specs.Parts.{figures_behind, lacks}
 use Rattle.plan_lines.proofs.KeyLemmas.{title-is}
@@ -166,12 +166,12 @@ module _ (c : Contents) (q : Query) (lawful : IsLawful c) (bound : IsWellBound c
   number-lacks n = lacks-ten (decimal n) (word-plain (decimal n) (decimal-word n))
 
   -- a whole line has no LF
-  pub line-lacks : (p : Plan) (n : Pair) → IsText c q p → lacks 10 (spaced c q p ++ (40 ∷ figures_behind n.0 n.1)) ≡ true
+  pub line-lacks : (p : Plan) (n : CostAndRows) → IsText c q p → lacks 10 (spaced c q p ++ (40 ∷ figures_behind n.0 n.1)) ≡ true
   line-lacks p n h =
       lacks-both (spaced c q p) (40 ∷ figures_behind n.0 n.1) (lacks-ten (spaced c q p) (spaced-plain p h))
       (lacks-both (decimal n.0) (codes " rows=" ++ (decimal n.1 ++ codes ")")) (number-lacks n.0) (lacks-both (decimal n.1) (codes ")") (number-lacks n.1) refl))
 
-  figures-are : (n : Pair) (rest : List ℕ) → figures_text (decimal n.0) n.1 ++ rest ≡ codes "  " ++ ((40 ∷ figures_behind n.0 n.1) ++ 10 ∷ rest)
+  figures-are : (n : CostAndRows) (rest : List ℕ) → figures_text (decimal n.0) n.1 ++ rest ≡ codes "  " ++ ((40 ∷ figures_behind n.0 n.1) ++ 10 ∷ rest)
   figures-are n rest =
       let first = decimal n.0 in
       let second = decimal n.1 in
@@ -182,7 +182,7 @@ module _ (c : Contents) (q : Query) (lawful : IsLawful c) (bound : IsWellBound c
       ap (λ (l : List ℕ). codes "  (cost=" ++ l) (one ∙ sym two)
 
   -- the parts of a node's line
-  pub line-parts : (d : ℕ) (p : Plan) (n : Pair) (rest : List ℕ) → line_with c q d p n ++ rest ≡ lead d ++ ((spaced c q p ++ (40 ∷ figures_behind n.0 n.1)) ++ 10 ∷ rest)
+  pub line-parts : (d : ℕ) (p : Plan) (n : CostAndRows) (rest : List ℕ) → line_with c q d p n ++ rest ≡ lead d ++ ((spaced c q p ++ (40 ∷ figures_behind n.0 n.1)) ++ 10 ∷ rest)
   line-parts d p n rest =
       let t = words (kind_of p) ++ behind_words c q p in
       let f = figures_text (decimal n.0) n.1 in

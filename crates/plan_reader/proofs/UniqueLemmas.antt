@@ -32,7 +32,7 @@ use Rattle.pg_base.proofs.NameLemmas.{decimal-word, name-word}
 use Rattle.plan_lines.specs.explain_laws_SplitLemmas.{no-space, relation-split, split}
 use Rattle.plan_lines.specs.certificate_entries_ClauseLemmas.{conjunct-small}
 use Rattle.plan_lines.specs.certificate_text_HasText.{HasKeysText}
-use Rattle.plan_space.specs.Numbered.{Pair, nodes}
+use Rattle.plan_space.specs.Numbered.{CostAndRows, nodes}
 use Rattle.plan_lines.specs.Kinds.{words}
 use Rattle.plan_lines.specs.Parts.{IsShallow}
 use Rattle.plan_lines.specs.declared.kinds.Kind.{Kind}
@@ -123,7 +123,7 @@ kind-same kinds.Merge kinds.Nest e = let bad : 4875597 ≡ 2123086 = e in absurd
 kind-same kinds.Merge kinds.Merge e = refl
 
 -- the numbers of a node
-figures-split : (n m : Pair) (x y : List ℕ) → Fits n → Fits m → figures_text (decimal n.0) n.1 ++ x ≡ figures_text (decimal m.0) m.1 ++ y → (n ≡ m) × (x ≡ y)
+figures-split : (n m : CostAndRows) (x y : List ℕ) → Fits n → Fits m → figures_text (decimal n.0) n.1 ++ x ≡ figures_text (decimal m.0) m.1 ++ y → (n ≡ m) × (x ≡ y)
 figures-split n m x y h k e =
     let a : (decimal n.0 ++ (codes " rows=" ++ (decimal n.1 ++ codes ")\n"))) ++ x ≡ (decimal m.0 ++ (codes " rows=" ++ (decimal m.1 ++ codes ")\n"))) ++ y = ap (λ (l : List ℕ). drop 8 l) e in
     let b = split (decimal n.0) (decimal m.0) ((codes " rows=" ++ (decimal n.1 ++ codes ")\n")) ++ x) ((codes " rows=" ++ (decimal m.1 ++ codes ")\n")) ++ y) (decimal-word n.0) (decimal-word m.0) refl refl
@@ -313,13 +313,13 @@ module _ (c : Contents) (q : Query) (lawful : IsLawful c) (bound : IsWellBound c
         (ap₂ tree_and one.0 rest.0, rest.1)
 
   -- the first line of a plan, taken to pieces
-  line-flat : (d : ℕ) (p : Plan) (n : Pair) (x : List ℕ) → line_with c q d p n ++ x ≡ lead d ++ (words (kind_of p) ++ (behind_words c q p ++ (figures_text (decimal n.0) n.1 ++ x)))
+  line-flat : (d : ℕ) (p : Plan) (n : CostAndRows) (x : List ℕ) → line_with c q d p n ++ x ≡ lead d ++ (words (kind_of p) ++ (behind_words c q p ++ (figures_text (decimal n.0) n.1 ++ x)))
   line-flat d p n x =
       append_assoc (lead d) (title c q p ++ figures_text (decimal n.0) n.1) x
       ∙ ap (λ (l : List ℕ). lead d ++ l) (append_assoc (title c q p) (figures_text (decimal n.0) n.1) x ∙ (ap (λ (t : List ℕ). t ++ (figures_text (decimal n.0) n.1 ++ x)) (title-is c q p)
       ∙ append_assoc (words (kind_of p)) (behind_words c q p) (figures_text (decimal n.0) n.1 ++ x)))
 
-  heads : (d : ℕ) (p o : Plan) (n m : Pair) (x y : List ℕ) → line_with c q d p n ++ x ≡ line_with c q d o m ++ y →
+  heads : (d : ℕ) (p o : Plan) (n m : CostAndRows) (x y : List ℕ) → line_with c q d p n ++ x ≡ line_with c q d o m ++ y →
       (kind_of p ≡ kind_of o) × (behind_words c q p ++ (figures_text (decimal n.0) n.1 ++ x) ≡ behind_words c q o ++ (figures_text (decimal m.0) m.1 ++ y))
   heads d p o n m x y e =
       let A = behind_words c q p ++ (figures_text (decimal n.0) n.1 ++ x) in
@@ -329,63 +329,63 @@ module _ (c : Contents) (q : Query) (lawful : IsLawful c) (bound : IsWellBound c
       (kind, append_cancel_left (words (kind_of o)) A B (ap (λ (k : Kind). words k ++ A) (sym kind) ∙ one))
 
   -- behind the two spaces of the numbers
-  numbers-told : (n m : Pair) (x y : List ℕ) → Fits n → Fits m → drop 2 (figures_text (decimal n.0) n.1 ++ x) ≡ drop 2 (figures_text (decimal m.0) m.1 ++ y) → (n ≡ m) × (x ≡ y)
+  numbers-told : (n m : CostAndRows) (x y : List ℕ) → Fits n → Fits m → drop 2 (figures_text (decimal n.0) n.1 ++ x) ≡ drop 2 (figures_text (decimal m.0) m.1 ++ y) → (n ≡ m) × (x ≡ y)
   numbers-told n m x y h k e = figures-split n m x y h k (ap (λ (l : List ℕ). 32 ∷ 32 ∷ l) e)
 
   -- what is told of two plans of one text
   abbrev IsTold : ℕ → Plan → Plan → Type 0
-  IsTold d p o = (ns ms : List Pair) (x y : List ℕ) → IsText c q p → IsText c q o → length ns ≡ nodes p → length ms ≡ nodes o → All Fits ns → All Fits ms → IsShallow d x → IsShallow d y →
+  IsTold d p o = (ns ms : List CostAndRows) (x y : List ℕ) → IsText c q p → IsText c q o → length ns ≡ nodes p → length ms ≡ nodes o → All Fits ns → All Fits ms → IsShallow d x → IsShallow d y →
       written_at c q d p ns ++ x ≡ written_at c q d o ms ++ y → (p ≡ o) × (ns ≡ ms) × (x ≡ y)
 
   -- the numbers of a plan: the first pair, and the later ones
-  parted : (p : Plan) (ns : List Pair) → length ns ≡ nodes p → ns ≡ first_pair ns ∷ later_pairs ns
+  parted : (p : Plan) (ns : List CostAndRows) → length ns ≡ nodes p → ns ≡ first_pair ns ∷ later_pairs ns
   parted p [] h = let some = nodes-some p in absurd (omega (arith, some, h))
   parted p (n ∷ ns) h = refl
 
-  first-fits : (p : Plan) (ns : List Pair) → length ns ≡ nodes p → All Fits ns → Fits (first_pair ns)
+  first-fits : (p : Plan) (ns : List CostAndRows) → length ns ≡ nodes p → All Fits ns → Fits (first_pair ns)
   first-fits p [] h k = let some = nodes-some p in absurd (omega (arith, some, h))
   first-fits p (n ∷ ns) h k = All-head Fits n ns k
 
-  later-fits : (p : Plan) (ns : List Pair) → length ns ≡ nodes p → All Fits ns → All Fits (later_pairs ns)
+  later-fits : (p : Plan) (ns : List CostAndRows) → length ns ≡ nodes p → All Fits ns → All Fits (later_pairs ns)
   later-fits p [] h k = k
   later-fits p (n ∷ ns) h k = All-tail Fits n ns k
 
-  later-count : (p : Plan) (ns : List Pair) → length ns ≡ nodes p → length (later_pairs ns) + 1 ≡ nodes p
+  later-count : (p : Plan) (ns : List CostAndRows) → length ns ≡ nodes p → length (later_pairs ns) + 1 ≡ nodes p
   later-count p [] h = let some = nodes-some p in absurd (omega (arith, some, h))
   later-count p (n ∷ ns) h = omega (arith, h)
 
-  no-later : (p : Plan) (ns : List Pair) → nodes p ≡ 1 → length (later_pairs ns) + 1 ≡ nodes p → later_pairs ns ≡ []
+  no-later : (p : Plan) (ns : List CostAndRows) → nodes p ≡ 1 → length (later_pairs ns) + 1 ≡ nodes p → later_pairs ns ≡ []
   no-later p [] one h = refl
   no-later p (n ∷ []) one h = refl
   no-later p (n ∷ (m ∷ ns)) one h = absurd (omega (arith, one, h))
 
   -- what is told behind the titles
-  record Heads (d : ℕ) (p o : Plan) (ns ms : List Pair) (x y : List ℕ) : Type 0 where
+  record Heads (d : ℕ) (p o : Plan) (ns ms : List CostAndRows) (x y : List ℕ) : Type 0 where
     kind : kind_of p ≡ kind_of o
     titles : behind_words c q p ++ (figures_text (decimal (first_pair ns).0) (first_pair ns).1 ++ (written_beneath c q d p (later_pairs ns) ++ x))
         ≡ behind_words c q o ++ (figures_text (decimal (first_pair ms).0) (first_pair ms).1 ++ (written_beneath c q d o (later_pairs ms) ++ y))
 
-  headed : (d : ℕ) (p o : Plan) (ns ms : List Pair) (x y : List ℕ) → written_at c q d p ns ++ x ≡ written_at c q d o ms ++ y → Heads d p o ns ms x y
+  headed : (d : ℕ) (p o : Plan) (ns ms : List CostAndRows) (x y : List ℕ) → written_at c q d p ns ++ x ≡ written_at c q d o ms ++ y → Heads d p o ns ms x y
   headed d p o ns ms x y e =
       let h = heads d p o (first_pair ns) (first_pair ms) (written_beneath c q d p (later_pairs ns) ++ x) (written_beneath c q d o (later_pairs ms) ++ y)
       (sym (append_assoc (line_with c q d p (first_pair ns)) (written_beneath c q d p (later_pairs ns)) x) ∙ e ∙ append_assoc (line_with c q d o (first_pair ms)) (written_beneath c q d o (later_pairs ms)) y) in
       record { kind = h.0; titles = h.1 }
 
   -- the rest of a line, behind its title
-  abbrev rest_of : ℕ → Plan → List Pair → List ℕ → List ℕ
+  abbrev rest_of : ℕ → Plan → List CostAndRows → List ℕ → List ℕ
   rest_of d p ns x = drop 2 (figures_text (decimal (first_pair ns).0) (first_pair ns).1 ++ (written_beneath c q d p (later_pairs ns) ++ x))
 
-  pairs-told : (p o : Plan) (ns ms : List Pair) → length ns ≡ nodes p → length ms ≡ nodes o → first_pair ns ≡ first_pair ms → later_pairs ns ≡ later_pairs ms → ns ≡ ms
-  pairs-told p o ns ms h k e f = parted p ns h ∙ (ap₂ (λ (n : Pair) (l : List Pair). n ∷ l) e f ∙ sym (parted o ms k))
+  pairs-told : (p o : Plan) (ns ms : List CostAndRows) → length ns ≡ nodes p → length ms ≡ nodes o → first_pair ns ≡ first_pair ms → later_pairs ns ≡ later_pairs ms → ns ≡ ms
+  pairs-told p o ns ms h k e f = parted p ns h ∙ (ap₂ (λ (n : CostAndRows) (l : List CostAndRows). n ∷ l) e f ∙ sym (parted o ms k))
 
-  leaf-told : (d : ℕ) (p o : Plan) (ns ms : List Pair) (x y : List ℕ) → nodes p ≡ 1 → nodes o ≡ 1 → written_beneath c q d p [] ≡ [] → written_beneath c q d o [] ≡ [] → length ns ≡ nodes p → length ms ≡ nodes o → All Fits ns → All Fits ms →
+  leaf-told : (d : ℕ) (p o : Plan) (ns ms : List CostAndRows) (x y : List ℕ) → nodes p ≡ 1 → nodes o ≡ 1 → written_beneath c q d p [] ≡ [] → written_beneath c q d o [] ≡ [] → length ns ≡ nodes p → length ms ≡ nodes o → All Fits ns → All Fits ms →
       rest_of d p ns x ≡ rest_of d o ms y → (ns ≡ ms) × (x ≡ y)
   leaf-told d p o ns ms x y op oo np no-beneath h k f g e =
       let r = numbers-told (first_pair ns) (first_pair ms) (written_beneath c q d p (later_pairs ns) ++ x) (written_beneath c q d o (later_pairs ms) ++ y) (first-fits p ns h f) (first-fits o ms k g) e in
       let ln = no-later p ns op (later-count p ns h) in
       let lm = no-later o ms oo (later-count o ms k) in (
         pairs-told p o ns ms h k r.0 (ln ∙ sym lm),
-        sym (ap (λ (l : List Pair). written_beneath c q d p l ++ x) ln ∙ ap (λ (l : List ℕ). l ++ x) np) ∙ r.1 ∙ (ap (λ (l : List Pair). written_beneath c q d o l ++ y) lm ∙ ap (λ (l : List ℕ). l ++ y) no-beneath),
+        sym (ap (λ (l : List CostAndRows). written_beneath c q d p l ++ x) ln ∙ ap (λ (l : List ℕ). l ++ x) np) ∙ r.1 ∙ (ap (λ (l : List CostAndRows). written_beneath c q d o l ++ y) lm ∙ ap (λ (l : List ℕ). l ++ y) no-beneath),
       )
 
   seq-told : (d : ℕ) (r s : RelNo) → IsTold d (seq r) (seq s)
@@ -430,13 +430,13 @@ module _ (c : Contents) (q : Query) (lawful : IsLawful c) (bound : IsWellBound c
       let u = told (later_pairs ns) (later_pairs ms) x y tp.0 to.0 (omega (arith, cn)) (omega (arith, cm)) (later-fits A ns h f) (later-fits B ms k g) (shallow-more d x sx) (shallow-more d y sy) n.1 in
       (ap₂ sort t.0 u.0, pairs-told A B ns ms h k n.0 u.1, u.2)
 
-  written-shallow : (d : ℕ) (p : Plan) (ns : List Pair) (x : List ℕ) → IsShallow (d + 1) (written_at c q (d + 1) p ns ++ x)
+  written-shallow : (d : ℕ) (p : Plan) (ns : List CostAndRows) (x : List ℕ) → IsShallow (d + 1) (written_at c q (d + 1) p ns ++ x)
   written-shallow d p ns x =
       subst (IsShallow (d + 1)) (sym (append_assoc (line_with c q (d + 1) p (first_pair ns)) (written_beneath c q (d + 1) p (later_pairs ns)) x ∙ line-flat (d + 1) p (first_pair ns) (written_beneath c q (d + 1) p (later_pairs ns) ++ x)))
       (line-shallow d (words (kind_of p) ++ (behind_words c q p ++ (figures_text (decimal (first_pair ns).0) (first_pair ns).1 ++ (written_beneath c q (d + 1) p (later_pairs ns) ++ x)))))
 
   -- two plans, one behind the other
-  both-told : (d : ℕ) (p r o s : Plan) (ns ms : List Pair) (x y : List ℕ) → IsTold (d + 1) p o → IsTold (d + 1) r s → IsText c q p → IsText c q r → IsText c q o → IsText c q s → length ns ≡ nodes p + nodes r → length ms ≡ nodes o + nodes s →
+  both-told : (d : ℕ) (p r o s : Plan) (ns ms : List CostAndRows) (x y : List ℕ) → IsTold (d + 1) p o → IsTold (d + 1) r s → IsText c q p → IsText c q r → IsText c q o → IsText c q s → length ns ≡ nodes p + nodes r → length ms ≡ nodes o + nodes s →
       All Fits ns → All Fits ms → IsShallow d x → IsShallow d y → written_beneath c q d (nest p r) ns ++ x ≡ written_beneath c q d (nest o s) ms ++ y → (p ≡ o) × (r ≡ s) × (ns ≡ ms) × (x ≡ y)
   both-told d p r o s ns ms x y first second tp tr to ts h k f g sx sy e =
       let A = written_at c q (d + 1) r (drop (nodes p) ns) ++ x in
@@ -447,7 +447,7 @@ module _ (c : Contents) (q : Query) (lawful : IsLawful c) (bound : IsWellBound c
       let ln = length-drop (nodes p) ns in
       let lm = length-drop (nodes o) ms in
       let two = second (drop (nodes p) ns) (drop (nodes o) ms) x y tr ts (omega (arith, ln, h)) (omega (arith, lm, k)) (All-drop Fits (nodes p) ns f) (All-drop Fits (nodes o) ms g) (shallow-more d x sx) (shallow-more d y sy) one.2 in
-      (one.0, two.0, sym (take-append-drop (nodes p) ns) ∙ (ap₂ (λ (a b : List Pair). a ++ b) one.1 two.1 ∙ take-append-drop (nodes o) ms), two.2)
+      (one.0, two.0, sym (take-append-drop (nodes p) ns) ∙ (ap₂ (λ (a b : List CostAndRows). a ++ b) one.1 two.1 ∙ take-append-drop (nodes o) ms), two.2)
 
   nest-told : (d : ℕ) (p r o s : Plan) → IsTold (d + 1) p o → IsTold (d + 1) r s → IsTold d (nest p r) (nest o s)
   nest-told d p r o s first second ns ms x y tp to h k f g sx sy e =
@@ -484,7 +484,7 @@ module _ (c : Contents) (q : Query) (lawful : IsLawful c) (bound : IsWellBound c
   plans-told (nest p r) o d = of-kind (nest p r) o d (at-nest (IsTold d (nest p r)) (λ z s. nest-told d p r z s (plans-told p z (d + 1)) (plans-told r s (d + 1))) o)
   plans-told (merge ks p r) o d = of-kind (merge ks p r) o d (at-merge (IsTold d (merge ks p r)) (λ ls z s. merge-told d ks ls p r z s (plans-told p z (d + 1)) (plans-told r s (d + 1))) o)
 
-pub one-plan : (c : Contents) (q : Query) (block : List ℕ) (p o : Plan) (ns ms : List Pair) → IsLawful c → IsWellBound c q → IsWritten c q block p ns → IsWritten c q block o ms → (p ≡ o) × (ns ≡ ms)
+pub one-plan : (c : Contents) (q : Query) (block : List ℕ) (p o : Plan) (ns ms : List CostAndRows) → IsLawful c → IsWellBound c q → IsWritten c q block p ns → IsWritten c q block o ms → (p ≡ o) × (ns ≡ ms)
 one-plan c q block p o ns ms lawful bound w v =
     let r = plans-told c q lawful bound p o 0 ns ms [] [] w.text v.text w.count v.count w.fits v.fits (shallow-end 0) (shallow-end 0)
     (append-nil (written_text c q p ns) ∙ (sym w.written ∙ v.written) ∙ sym (append-nil (written_text c q o ms))) in

@@ -12,7 +12,7 @@ use Rattle.plan_tree.specs.Plans.{BitTree, Plan, bitmap, merge, seq, set_of, sor
 use Rattle.plan_tree.specs.Views.{bits, plan}
 use Rattle.plan_tree.specs.declared.bits.BitTree.{BitTree as Bits}
 use Rattle.plan_tree.specs.declared.plan.Plan.{Plan as Planned}
-use Rattle.plan_space.specs.Numbered.{Pair}
+use Rattle.plan_space.specs.Numbered.{CostAndRows}
 use Rattle.plan_lines.specs.certificate_text_HasText.{HasKeysText, IsWritable}
 use Rattle.plan_lines.specs.explain_Texts.{bits_text, keys_text, rel_text, scanned_text}
 use Rattle.plan_lines.specs.HasText.{HasBits, IsScanned, IsText}
@@ -42,7 +42,7 @@ module _ (c : Contents) (q : Query) where
   -- the line of a node at a depth is read, and what follows is left
   abbrev pub ReadsFirst : ℕ → List ℕ → List ℕ → Option NodeLine → Type 0
   ReadsFirst d old new result =
-      (p : Plan) (n : Pair) (rest : List ℕ) → IsText c q p → Fits n → old ≡ line_with c q d p n ++ rest →
+      (p : Plan) (n : CostAndRows) (rest : List ℕ) → IsText c q p → Fits n → old ≡ line_with c q d p n ++ rest →
       IsSomeAnd result (λ l. IsLineOf l (kind_of p) (behind_words c q p) n) × (new ≡ rest)
 
   -- the text behind the words of a sequential scan
@@ -90,18 +90,18 @@ module _ (c : Contents) (q : Query) where
   AreSidesAt d s = IsTextAt d (plan s.0) × IsTextAt d (plan s.1)
 
   -- a plan whose lines come next is read with its numbers, and what follows is left
-  abbrev pub ReadsPlan : ℕ → List ℕ → List ℕ → Vec Pair Global → Vec Pair Global → Option Planned → Type 0
+  abbrev pub ReadsPlan : ℕ → List ℕ → List ℕ → Vec CostAndRows Global → Vec CostAndRows Global → Option Planned → Type 0
   ReadsPlan d old new before after result = IsRead c q d old new before.items after.items (option_map plan result)
 
   -- two plans whose lines come next, one behind the other, are read with their numbers, and what follows is left
-  abbrev pub ReadsPair : ℕ → List ℕ → List ℕ → Vec Pair Global → Vec Pair Global → Option (Planned × Planned) → Type 0
+  abbrev pub ReadsPair : ℕ → List ℕ → List ℕ → Vec CostAndRows Global → Vec CostAndRows Global → Option (Planned × Planned) → Type 0
   ReadsPair d old new before after result =
       AreRead c q d old new before.items after.items (option_map {U = Plan × Plan} (λ s. (plan s.0, plan s.1)) result)
 
   -- a block is the text of no other tree, and with no other numbers
-  abbrev pub IsOnlyPlan : List ℕ → Plan → List Pair → Type 0
-  IsOnlyPlan block p ns = (o : Plan) (ms : List Pair) → IsWritten c q block o ms → (o ≡ p) × (ms ≡ ns)
+  abbrev pub IsOnlyPlan : List ℕ → Plan → List CostAndRows → Type 0
+  IsOnlyPlan block p ns = (o : Plan) (ms : List CostAndRows) → IsWritten c q block o ms → (o ≡ p) × (ms ≡ ns)
 
   -- a block is the text of no tree
   abbrev pub IsNoPlan : List ℕ → Type 0
-  IsNoPlan block = (p : Plan) (ns : List Pair) → ¬ IsWritten c q block p ns
+  IsNoPlan block = (p : Plan) (ns : List CostAndRows) → ¬ IsWritten c q block p ns

@@ -6,7 +6,7 @@ ghost use Rattle.sql_query.specs.Queries.{Query};
 ghost use Rattle.sql_query.specs.WellBound.{IsWellBound};
 ghost use Rattle.plan_tree.specs.Plans.{Plan};
 ghost use Rattle.plan_lines.specs.explain_Texts.{plan_text};
-ghost use Rattle.plan_space.specs.Numbered.{Pair, nodes, own_numbers};
+ghost use Rattle.plan_space.specs.Numbered.{CostAndRows, nodes, own_numbers};
 ghost use Rattle.plan_reader.specs.Written.{IsWritten, written_text};
 
 /// The text of a plan of a query without a window is the one that is written with the plan's own numbers, a pair for each node.
@@ -18,7 +18,7 @@ pub fn own_texts_are_written()
 
 /// A block is the text of one plan tree of a query at most, and with one list of numbers at most.
 pub fn a_text_has_one_plan()
-    ensures { (c : Contents) (q : Query) (block : List ℕ) (p o : Plan) (ns ms : List Pair) →
+    ensures { (c : Contents) (q : Query) (block : List ℕ) (p o : Plan) (ns ms : List CostAndRows) →
         IsLawful c → IsWellBound c q → IsWritten c q block p ns → IsWritten c q block o ms →
         (p ≡ o) × (ns ≡ ms) }
 {}

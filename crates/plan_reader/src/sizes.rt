@@ -1,7 +1,7 @@
 //! How many lines a plan has.
 
 ghost use Rattle.std.specs.Prelude.{◌≡◌, ◌≤◌, ◌+◌, min};
-ghost use Rattle.plan_space.specs.Numbered.{all_bit_lines, bit_lines, lines};
+ghost use Rattle.plan_space.specs.Numbered.{all_bit_lines, bit_lines, line_count};
 ghost use Rattle.plan_tree.specs.Views.{bits, bits_all, plan};
 
 use plan_tree::{BitTree, Plan};
@@ -41,7 +41,7 @@ fn count_all(trees: &[BitTree]) -> u32
 
 /// The lines of a plan, or 257 where they are more.
 pub(crate) fn count_up(p: &Plan) -> u32
-    ensures { result ≡ min (lines (plan p.now)) 257 }
+    ensures { result ≡ min (line_count (plan p.now)) 257 }
 {
     match p {
         Plan::Seq { .. } => 1,

@@ -9,13 +9,13 @@ use Rattle.plan_tree.specs.Plans.{Plan, seq, index, index_only, bitmap, sort, ne
 use Rattle.plan_tree.specs.Views.{plan}
 use Rattle.plan_tree.specs.Space.{IsBuilt, IsFinished}
 use Rattle.plan_space.specs.Judging.{IsBadJoin, IsJudged, IsOutside, IsUnfinished, IsWrongNumber, IsWrongPair, unsorted}
-use Rattle.plan_space.specs.Numbered.{Pair, lines, lines_from, own_numbers}
+use Rattle.plan_space.specs.Numbered.{CostAndRows, line_count, lines_from, own_numbers}
 use Rattle.plan_space.specs.declared.judged.Judged.{Judged}
 use Rattle.plan_space.specs.declared.judged.Judged.TheVariants.{Good, Outside, Limit, Number}
 use Rattle.plan_reader.specs.Written.{IsWritten}
 use Rattle.plan_reader.proofs.UniqueLemmas.{one-plan}
 use Rattle.reply_text.specs.Texts.{invalid_line}
-use Rattle.plan_reply.specs.Told.{IsFault, IsFaulted, IsGoodPlan, IsRefusedPlan, IsSameTold, IsTold, faulted, reason_text, unread}
+use Rattle.plan_reply.specs.Told.{IsNotGood, IsFaulted, IsGoodPlan, IsRefusedPlan, IsSameTold, IsTold, faulted, reason_text, unread}
 use Rattle.plan_reply.specs.declared.told.Told.{Told}
 use Rattle.plan_reply.specs.declared.told.Told.TheVariants as tellings
 
@@ -38,26 +38,26 @@ module _ (c : Contents) (q : Query) where
   outside-unbuilt at line (bitmap r p bits) h b = h.0 b
   outside-unbuilt at line (sort keys input) h b = outside-unbuilt (at + 1) line input h b
   outside-unbuilt at line (nest outer inner) (inl h) b = outside-unbuilt (at + 1) line outer h (built-unsorted outer b.0)
-  outside-unbuilt at line (nest outer inner) (inr (inl h)) b = outside-unbuilt (at + 1 + lines outer) line inner h.1 (built-unsorted inner b.1)
+  outside-unbuilt at line (nest outer inner) (inr (inl h)) b = outside-unbuilt (at + 1 + line_count outer) line inner h.1 (built-unsorted inner b.1)
   outside-unbuilt at line (nest outer inner) (inr (inr h)) b = h.0.bad b
   outside-unbuilt at line (merge keys outer inner) (inl h) b = outside-unbuilt (at + 1) line outer h (built-unsorted outer b.0)
-  outside-unbuilt at line (merge keys outer inner) (inr (inl h)) b = outside-unbuilt (at + 1 + lines outer) line inner h.1 (built-unsorted inner b.1)
+  outside-unbuilt at line (merge keys outer inner) (inr (inl h)) b = outside-unbuilt (at + 1 + line_count outer) line inner h.1 (built-unsorted inner b.1)
   outside-unbuilt at line (merge keys outer inner) (inr (inr h)) b = h.0.bad b
 
   abbrev OfSides : ℕ → ℕ → Plan → Plan → Plan → Type 0
   OfSides at line join outer inner =
-      IsOutside c q (at + 1) outer line ⊎ ((IsBuilt c q (unsorted outer) × IsOutside c q (at + 1 + lines outer) inner line) ⊎ (IsBadJoin c q join outer inner × (line ≡ at)))
+      IsOutside c q (at + 1) outer line ⊎ ((IsBuilt c q (unsorted outer) × IsOutside c q (at + 1 + line_count outer) inner line) ⊎ (IsBadJoin c q join outer inner × (line ≡ at)))
 
   sides-one : (at n m : ℕ) (join outer inner : Plan) → (IsOutside c q (at + 1) outer n → IsOutside c q (at + 1) outer m → n ≡ m)
-      → (IsOutside c q (at + 1 + lines outer) inner n → IsOutside c q (at + 1 + lines outer) inner m → n ≡ m) → OfSides at n join outer inner → OfSides at m join outer inner → n ≡ m
+      → (IsOutside c q (at + 1 + line_count outer) inner n → IsOutside c q (at + 1 + line_count outer) inner m → n ≡ m) → OfSides at n join outer inner → OfSides at m join outer inner → n ≡ m
   sides-one at n m join outer inner o i (inl h) (inl k) = o h k
   sides-one at n m join outer inner o i (inl h) (inr (inl k)) = absurd (outside-unbuilt (at + 1) n outer h k.0)
   sides-one at n m join outer inner o i (inl h) (inr (inr k)) = absurd (outside-unbuilt (at + 1) n outer h k.0.outer_built)
   sides-one at n m join outer inner o i (inr (inl h)) (inl k) = absurd (outside-unbuilt (at + 1) m outer k h.0)
   sides-one at n m join outer inner o i (inr (inl h)) (inr (inl k)) = i h.1 k.1
-  sides-one at n m join outer inner o i (inr (inl h)) (inr (inr k)) = absurd (outside-unbuilt (at + 1 + lines outer) n inner h.1 k.0.inner_built)
+  sides-one at n m join outer inner o i (inr (inl h)) (inr (inr k)) = absurd (outside-unbuilt (at + 1 + line_count outer) n inner h.1 k.0.inner_built)
   sides-one at n m join outer inner o i (inr (inr h)) (inl k) = absurd (outside-unbuilt (at + 1) m outer k h.0.outer_built)
-  sides-one at n m join outer inner o i (inr (inr h)) (inr (inl k)) = absurd (outside-unbuilt (at + 1 + lines outer) m inner k.1 h.0.inner_built)
+  sides-one at n m join outer inner o i (inr (inr h)) (inr (inl k)) = absurd (outside-unbuilt (at + 1 + line_count outer) m inner k.1 h.0.inner_built)
   sides-one at n m join outer inner o i (inr (inr h)) (inr (inr k)) = h.1 ∙ sym k.1
 
   -- the first node outside stands in one line
@@ -68,9 +68,9 @@ module _ (c : Contents) (q : Query) where
   outside-one at n m (bitmap r p bits) h k = h.1 ∙ sym k.1
   outside-one at n m (sort keys input) h k = outside-one (at + 1) n m input h k
   outside-one at n m (nest outer inner) h k =
-      sides-one at n m (nest outer inner) outer inner (λ a b. outside-one (at + 1) n m outer a b) (λ a b. outside-one (at + 1 + lines outer) n m inner a b) h k
+      sides-one at n m (nest outer inner) outer inner (λ a b. outside-one (at + 1) n m outer a b) (λ a b. outside-one (at + 1 + line_count outer) n m inner a b) h k
   outside-one at n m (merge keys outer inner) h k =
-      sides-one at n m (merge keys outer inner) outer inner (λ a b. outside-one (at + 1) n m outer a b) (λ a b. outside-one (at + 1 + lines outer) n m inner a b) h k
+      sides-one at n m (merge keys outer inner) outer inner (λ a b. outside-one (at + 1) n m outer a b) (λ a b. outside-one (at + 1 + line_count outer) n m inner a b) h k
 
   unfinished-one : (p : Plan) (n m : ℕ) → IsUnfinished c q p n → IsUnfinished c q p m → n ≡ m
   unfinished-one p n m (inl h) (inl k) = outside-one 1 n m p h k
@@ -83,15 +83,15 @@ module _ (c : Contents) (q : Query) where
   not-both p n (inr h) f = h.1 f
 
 -- what equal first parts have at a place
-taken-same : (xs ys : List Pair) (n k : ℕ) → take n xs ≡ take n ys → k < n → get_or xs k (0, 0) ≡ get_or ys k (0, 0)
-taken-same xs ys n k same lt = sym (get_or-take n xs k (0, 0) lt) ∙ ap (λ (l : List Pair). get_or l k (0, 0)) same ∙ get_or-take n ys k (0, 0) lt
+taken-same : (xs ys : List CostAndRows) (n k : ℕ) → take n xs ≡ take n ys → k < n → get_or xs k (0, 0) ≡ get_or ys k (0, 0)
+taken-same xs ys n k same lt = sym (get_or-take n xs k (0, 0) lt) ∙ ap (λ (l : List CostAndRows). get_or l k (0, 0)) same ∙ get_or-take n ys k (0, 0) lt
 
-wrong-differs : (b : Bool) (pair own : Pair) (printed is : ℕ) → IsWrongPair b pair own printed is → pair ≡ own → ⊥
-wrong-differs true pair own printed is h same = h.2 (h.0 ∙ (ap (λ (x : Pair). x.0) same ∙ sym h.1))
-wrong-differs false pair own printed is h same = h.3 (h.1 ∙ (ap (λ (x : Pair). x.1) same ∙ sym h.2))
+wrong-differs : (b : Bool) (pair own : CostAndRows) (printed is : ℕ) → IsWrongPair b pair own printed is → pair ≡ own → ⊥
+wrong-differs true pair own printed is h same = h.2 (h.0 ∙ (ap (λ (x : CostAndRows). x.0) same ∙ sym h.1))
+wrong-differs false pair own printed is h same = h.3 (h.1 ∙ (ap (λ (x : CostAndRows). x.1) same ∙ sym h.2))
 
 -- one wrong number of a pair
-wrong-one : (a b : Bool) (pair own : Pair) (x y u v : ℕ) (line : ℕ) → IsWrongPair a pair own x y → IsWrongPair b pair own u v → Number line a x y ≡ Number line b u v
+wrong-one : (a b : Bool) (pair own : CostAndRows) (x y u v : ℕ) (line : ℕ) → IsWrongPair a pair own x y → IsWrongPair b pair own u v → Number line a x y ≡ Number line b u v
 wrong-one true true pair own x y u v line h k =
     let first : x ≡ u = h.0 ∙ sym k.0 in
     let second : y ≡ v = h.1 ∙ sym k.1 in
@@ -103,7 +103,7 @@ wrong-one false false pair own x y u v line h k =
 wrong-one true false pair own x y u v line h k = absurd (h.2 (h.0 ∙ (k.0 ∙ sym h.1)))
 wrong-one false true pair own x y u v line h k = absurd (k.2 (k.0 ∙ (h.0 ∙ sym k.1)))
 
-module _ (c : Contents) (q : Query) (p : Plan) (ns : List Pair) where
+module _ (c : Contents) (q : Query) (p : Plan) (ns : List CostAndRows) where
   -- the first wrong number stands at one node
   earlier : (n m : ℕ) (a b : Bool) (x y u v : ℕ) (h : IsWrongNumber c q p ns n a x y) (k : IsWrongNumber c q p ns m b u v) → h.node < k.node → ⊥
   earlier n m a b x y u v h k lt =
@@ -124,7 +124,7 @@ module _ (c : Contents) (q : Query) (p : Plan) (ns : List Pair) where
 
   unwrong : (n : ℕ) (a : Bool) (x y : ℕ) → IsWrongNumber c q p ns n a x y → ns ≡ own_numbers c q p → ⊥
   unwrong n a x y h same =
-      wrong-differs a (get_or ns h.node (0, 0)) (get_or (own_numbers c q p) h.node (0, 0)) x y h.wrong (ap (λ (l : List Pair). get_or l h.node (0, 0)) same)
+      wrong-differs a (get_or ns h.node (0, 0)) (get_or (own_numbers c q p) h.node (0, 0)) x y h.wrong (ap (λ (l : List CostAndRows). get_or l h.node (0, 0)) same)
 
   -- one thing is wrong
   judged-one : (j k : Judged) → IsJudged c q p ns j → IsJudged c q p ns k → j ≡ k
@@ -147,11 +147,11 @@ module _ (c : Contents) (q : Query) (p : Plan) (ns : List Pair) where
 
 module _ (c : Contents) (q : Query) (block : List ℕ) (lawful : IsLawful c) (bound : IsWellBound c q) where
   -- what is found of the plan of a block is found of it however it is read
-  found-of : (p o : Plan) (ns ms : List Pair) (j k : Judged) → IsWritten c q block p ns → IsWritten c q block o ms → IsJudged c q p ns j → IsJudged c q o ms k → j ≡ k
+  found-of : (p o : Plan) (ns ms : List CostAndRows) (j k : Judged) → IsWritten c q block p ns → IsWritten c q block o ms → IsJudged c q p ns j → IsJudged c q o ms k → j ≡ k
   found-of p o ns ms j k w v h g =
       let same = one-plan c q block p o ns ms lawful bound w v in
       let P : Plan → Type 0 = λ x. IsJudged c q x ns j in
-      let Q : List Pair → Type 0 = λ x. IsJudged c q o x j in
+      let Q : List CostAndRows → Type 0 = λ x. IsJudged c q o x j in
       judged-one c q o ms j k (subst Q same.1 (subst P same.0 h)) g
 
   faults-one : (x y : List ℕ) → IsFaulted c q block x → IsFaulted c q block y → x ≡ y
@@ -165,7 +165,7 @@ module _ (c : Contents) (q : Query) (block : List ℕ) (lawful : IsLawful c) (bo
 
   never-both : (x : List ℕ) (p : Plan) → IsRefusedPlan c q block x → IsGoodPlan c q block p → ⊥
   never-both x p (unread a e) g = a p g.numbers g.read
-  never-both x p (faulted f) g = subst IsFault (found-of f.plan p f.numbers g.numbers f.judged Good f.read g.read f.holds g.good) f.fault
+  never-both x p (faulted f) g = subst IsNotGood (found-of f.plan p f.numbers g.numbers f.judged Good f.read g.read f.holds g.good) f.fault
 
   pub told-one : (t u : Told) → IsTold c q block t → IsTold c q block u → IsSameTold t u
   told-one (tellings.Line a) (tellings.Line b) h k = lines-one a.items b.items h k

@@ -18,7 +18,7 @@ use Rattle.executor.specs.Reading.{Reading}
 use Rattle.reply.specs.explain_Texts.{plan_text}
 use Rattle.reply.specs.plan_laws_FinishedLemmas.{finished_is_meaning}
 use Rattle.reply.specs.plan_laws_FinishedOrderLemmas.{finished_is_ordered}
-use Rattle.plan_space.specs.Numbered.{Pair}
+use Rattle.plan_space.specs.Numbered.{CostAndRows}
 use Rattle.plan_reader.specs.Written.{written_text}
 use Rattle.plan_reader.proofs.OwnLemmas.{own-plan}
 use Rattle.reply.specs.Answers.{result_text, tuples_of}
@@ -52,7 +52,7 @@ module _ (w : World) (q : Query) (block line : List ℕ) (is : IsRefusedPlan w.c
 -- the answer by a good plan
 module _ (w : World) (q : Query) (block : List ℕ) (p : Plan) (world : IsWorld w) (bound : IsWellBound w.contents q) (none : q.window ≡ None) (is : IsGoodPlan w.contents q block p) where
   pub block-is : block ≡ plan_text w.contents q p
-  block-is = is.read.written ∙ ap (λ (ns : List Pair). written_text w.contents q p ns) is.good.numbers ∙ sym (own-plan w.contents q p none)
+  block-is = is.read.written ∙ ap (λ (ns : List CostAndRows). written_text w.contents q p ns) is.good.numbers ∙ sym (own-plan w.contents q p none)
 
   abbrev pub answer_bytes : List ℕ
   answer_bytes = block ++ result_text w q (tuples_of w q p)

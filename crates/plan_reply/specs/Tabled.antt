@@ -23,13 +23,10 @@ pub record IsTabled (c : Contents) (q : Query) (p : Plan) (t : Certificate) : Ty
   pub ordered : IsInOrder printing_order t.entries
   pub text : HasText c q t
 
--- the line behind a certificate
-abbrev pub end_line : List ℕ
-end_line = codes "\\.\n"
-
--- the plan's text, with the line of LIMIT and OFFSET first where one is written, then the table's, then that line
+-- the plan's text, with the line of LIMIT and OFFSET first where one is written, then the table's, then the line behind a
+-- certificate
 abbrev pub tabled_text : Contents → Query → Plan → Certificate → List ℕ
-tabled_text c q p t = explained_text c q p ++ (certificate_text c q t ++ end_line)
+tabled_text c q p t = explained_text c q p ++ (certificate_text c q t ++ codes "\\.\n")
 
 -- bytes that are such a text
 pub record IsTabledText (c : Contents) (q : Query) (bytes : List ℕ) : Type 0 where

@@ -1,5 +1,5 @@
 -- What USE PLAN of a SELECT prints. Own.
-use Rattle.std.specs.Prelude.{ℕ, ◌≡◌, ◌≤◌, Bool, cond, List, [], ◌++◌, codes, IsPermutation}
+use Rattle.std.specs.Prelude.{ℕ, ◌≡◌, ◌≤◌, cond, List, [], ◌++◌, codes, IsPermutation}
 use Rattle.std.specs.Fmt.{decimal}
 use Rattle.catalog.specs.Contents.{Contents}
 use Rattle.reply_text.specs.Texts.{invalid_line}
@@ -14,7 +14,7 @@ use Rattle.plan_tree.specs.Plans.{Plan}
 use Rattle.plan_tree.specs.Space.{IsFinished}
 use Rattle.plan_tree.specs.Views.{plan}
 use Rattle.plan_space.specs.Judging.{IsGood, IsJudged}
-use Rattle.plan_space.specs.Numbered.{Pair}
+use Rattle.plan_space.specs.Numbered.{CostAndRows}
 use Rattle.plan_space.specs.declared.judged.Judged.{Judged}
 use Rattle.plan_space.specs.declared.judged.Judged.TheVariants.{Good, Outside, Limit, Number}
 use Rattle.plan_reader.specs.Written.{IsWritten}
@@ -24,39 +24,35 @@ use Rattle.reply.specs.Replies.{Reply}
 use Rattle.plan_reply.specs.declared.told.Told.{Told}
 use Rattle.plan_reply.specs.declared.told.Told.TheVariants as tellings
 
--- the name of a number of a node
-abbrev pub number_name : Bool → List ℕ
-number_name is_cost = cond is_cost (codes "cost") (codes "rows")
-
 -- why a plan that is read is not run; of a good one there is no reason
 abbrev pub reason_text : Judged → List ℕ
 reason_text Good = []
 reason_text (Outside line) = codes "P2 line " ++ decimal line
 reason_text Limit = codes "P4 cost " ++ decimal MOST_COST
 reason_text (Number line is_cost printed own) =
-    codes "P3 line " ++ (decimal line ++ (codes " " ++ (number_name is_cost ++ (codes " " ++ (decimal printed ++ (codes " is " ++ decimal own))))))
+    codes "P3 line " ++ (decimal line ++ (codes " " ++ (cond is_cost (codes "cost") (codes "rows") ++ (codes " " ++ (decimal printed ++ (codes " is " ++ decimal own))))))
 
 -- a plan that is read is not good
-abbrev pub IsFault : Judged → Type 0
-IsFault Good = ⊥
-IsFault _ = Unit {0}
+abbrev pub IsNotGood : Judged → Type 0
+IsNotGood Good = ⊥
+IsNotGood _ = Unit {0}
 
 -- a plan that is read is not good, and these bytes say why
 abbrev pub IsReasonOf : Judged → List ℕ → Type 0
-IsReasonOf judged bytes = IsFault judged × (bytes ≡ reason_text judged)
+IsReasonOf judged bytes = IsNotGood judged × (bytes ≡ reason_text judged)
 
 module _ (c : Contents) (q : Query) (block : List ℕ) where
   -- the block is the text of no plan
   abbrev pub IsNoPlanText : Type 0
-  IsNoPlanText = (p : Plan) (ns : List Pair) → ¬ IsWritten c q block p ns
+  IsNoPlanText = (p : Plan) (ns : List CostAndRows) → ¬ IsWritten c q block p ns
 
   -- the block is the text of a plan that is not good, for this reason
   pub record IsFaulted (bytes : List ℕ) : Type 0 where
     pub plan : Plan
-    pub numbers : List Pair
+    pub numbers : List CostAndRows
     pub read : IsWritten c q block plan numbers
     pub judged : Judged
-    pub fault : IsFault judged
+    pub fault : IsNotGood judged
     pub holds : IsJudged c q plan numbers judged
     pub told : bytes ≡ invalid_line (reason_text judged)
 
@@ -67,7 +63,7 @@ module _ (c : Contents) (q : Query) (block : List ℕ) where
 
   -- the block is the text of a good plan
   pub record IsGoodPlan (p : Plan) : Type 0 where
-    pub numbers : List Pair
+    pub numbers : List CostAndRows
     pub read : IsWritten c q block p numbers
     pub good : IsGood c q p numbers
 

@@ -1,7 +1,7 @@
 //! A plan's text read and judged.
 
 ghost use Rattle.std.specs.Prelude.{◌≡◌, ◌≤◌, ℕ, IfOk, List, codes, length};
-ghost use Rattle.plan_space.specs.Numbered.{lines, nodes};
+ghost use Rattle.plan_space.specs.Numbered.{line_count, nodes};
 ghost use Rattle.plan_space.specs.declared.lines.TheConstants.{MOST_LINES};
 ghost use Rattle.plan_reader.specs.Written.{IsWritten};
 ghost use Rattle.plan_reader.specs.declared.reading.WrittenFault.TheVariants.{P1};
@@ -23,7 +23,7 @@ use std::alloc::{AllocError, Global};
 /// What is answered for each block that is the text of this plan with these numbers. The error means out of memory.
 fn told_by(alloc: Global, cat: &Catalog, q: &Prepared, w: Written) -> Result<Told, Memory>
     requires bound { IsWellBound cat.now q.now }
-    requires few { lines (plan w.plan) ≤ MOST_LINES }
+    requires few { line_count (plan w.plan) ≤ MOST_LINES }
     requires count { length w.numbers ≡ nodes (plan w.plan) }
     ensures { IfOk result (λ t. (block : List ℕ) →
         IsWritten cat.now q.now block (plan w.plan) w.numbers → IsTold cat.now q.now block t) }

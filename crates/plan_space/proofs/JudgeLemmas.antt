@@ -10,7 +10,7 @@ use Rattle.plan_tree.specs.Plans.{Plan}
 use Rattle.plan_tree.specs.Least.{IsAdmissible}
 use Rattle.plan_tree.specs.Space.{IsFinished}
 use Rattle.plan_space.specs.Judging.{IsJudged, IsWrong, IsWrongPair, NamesWrong}
-use Rattle.plan_space.specs.Numbered.{Pair, lines_from, nodes, own_numbers}
+use Rattle.plan_space.specs.Numbered.{CostAndRows, lines_from, nodes, own_numbers}
 use Rattle.plan_space.specs.declared.judged.Judged.{Judged}
 use Rattle.plan_space.specs.declared.judged.Judged.TheVariants.{Good, Outside, Limit, Number}
 use Rattle.plan_space.proofs.PartLemmas.{own-count}
@@ -28,7 +28,7 @@ below-limit r own is differs = here own.total (λ f. differs (ap (λ (x : Costs)
     here : (n : ℕ) → capped n ≢ MOST_COST → n < MOST_COST
     here n f = omega (arith, f)
 
-module _ (c : Contents) (q : Query) (p : Plan) (ns : List Pair) where
+module _ (c : Contents) (q : Query) (p : Plan) (ns : List CostAndRows) where
   -- a wrong number names its cause
   pub names-judged : (j : Judged) → IsFinished c q p → IsAdmissible c q p → NamesWrong c q p ns j → IsJudged c q p ns j
   names-judged Good f a h = absurd h
@@ -44,7 +44,7 @@ module _ (c : Contents) (q : Query) (p : Plan) (ns : List Pair) where
     all-same n le same = let long = own-count c q p in sym (take_all n ns le) ∙ (same ∙ take_all n (own_numbers c q p) (omega (arith, count, long, le)))
 
     -- a wrong pair of a node, where those before are the nodes' own
-    pub wrong-at : (n line : ℕ) (pair own : Pair) (j : Judged) → n < length ns → take n ns ≡ take n (own_numbers c q p) → line ≡ get_or (lines_from 1 p) n 0 → pair ≡ get_or ns n (0, 0) → own ≡ get_or (own_numbers c q p) n (0, 0) →
+    pub wrong-at : (n line : ℕ) (pair own : CostAndRows) (j : Judged) → n < length ns → take n ns ≡ take n (own_numbers c q p) → line ≡ get_or (lines_from 1 p) n 0 → pair ≡ get_or ns n (0, 0) → own ≡ get_or (own_numbers c q p) n (0, 0) →
         IsWrong line pair own j → NamesWrong c q p ns j
     wrong-at n line pair own Good lt before l a b h = absurd h
     wrong-at n line pair own (Outside at) lt before l a b h = absurd h
@@ -54,5 +54,5 @@ module _ (c : Contents) (q : Query) (p : Plan) (ns : List Pair) where
       within = omega (arith, count, lt);
       before = before;
       line_is = h.0 ∙ l;
-      wrong = subst (λ (x : Pair). IsWrongPair is_cost x (get_or (own_numbers c q p) n (0, 0)) printed is) a (subst (λ (x : Pair). IsWrongPair is_cost pair x printed is) b h.1);
+      wrong = subst (λ (x : CostAndRows). IsWrongPair is_cost x (get_or (own_numbers c q p) n (0, 0)) printed is) a (subst (λ (x : CostAndRows). IsWrongPair is_cost pair x printed is) b h.1);
     }

@@ -9,7 +9,7 @@ use Rattle.sql_query.specs.Queries.{Query}
 use Rattle.pathkeys.specs.Keys.{Keys}
 use Rattle.plan_tree.specs.Plans.{Plan, seq, index, index_only, bitmap, sort, nest, merge}
 use Rattle.plan_tree.proofs.BoundLemmas.{merge-most, nest-most, sort-most}
-use Rattle.plan_space.specs.Numbered.{lines, lines_from, nodes, own_numbers, own_pair}
+use Rattle.plan_space.specs.Numbered.{line_count, lines_from, nodes, own_numbers, own_pair}
 use Rattle.plan_space.specs.Parts.{IsPart}
 
 pub line-count : (at : ℕ) (p : Plan) → length (lines_from at p) ≡ nodes p
@@ -20,13 +20,13 @@ line-count at (bitmap r p bits) = refl
 line-count at (sort keys input) = let one = line-count (at + 1) input in omega (arith, one)
 line-count at (nest outer inner) =
     let one = line-count (at + 1) outer in
-    let other = line-count (at + 1 + lines outer) inner in
-    let both = length-append (lines_from (at + 1) outer) (lines_from (at + 1 + lines outer) inner) in
+    let other = line-count (at + 1 + line_count outer) inner in
+    let both = length-append (lines_from (at + 1) outer) (lines_from (at + 1 + line_count outer) inner) in
     omega (arith, one, other, both)
 line-count at (merge keys outer inner) =
     let one = line-count (at + 1) outer in
-    let other = line-count (at + 1 + lines outer) inner in
-    let both = length-append (lines_from (at + 1) outer) (lines_from (at + 1 + lines outer) inner) in
+    let other = line-count (at + 1 + line_count outer) inner in
+    let both = length-append (lines_from (at + 1) outer) (lines_from (at + 1 + line_count outer) inner) in
     omega (arith, one, other, both)
 
 pub first-line : (at : ℕ) (p : Plan) → get_or (lines_from at p) 0 0 ≡ at
@@ -109,7 +109,7 @@ module _ (c : Contents) (q : Query) where
   outer-of-nest p outer inner at place n e count differs low = subst (IsFound at place outer (at + 1) (place - 1)) (sym e) (λ lt. record {
     within = omega (arith, low, count);
     few = omega arith;
-    line = in-front at 0 (lines_from (at + 1) outer) (lines_from (at + 1 + lines outer) inner) place n (line-count (at + 1) outer ∙ sym count) differs low;
+    line = in-front at 0 (lines_from (at + 1) outer) (lines_from (at + 1 + line_count outer) inner) place n (line-count (at + 1) outer ∙ sym count) differs low;
     own = in-front (own_pair c q (nest outer inner)) (0, 0) (own_numbers c q outer) (own_numbers c q inner) place n (own-count outer ∙ sym count) differs low;
     costable = λ h. h.0;
     admissible = λ some h. lt_of_le_of_lt (nest-most c q some outer inner).0 h;
@@ -119,27 +119,27 @@ module _ (c : Contents) (q : Query) where
   outer-of-merge p outer inner keys at place n e count differs low = subst (IsFound at place outer (at + 1) (place - 1)) (sym e) (λ lt. record {
     within = omega (arith, low, count);
     few = omega arith;
-    line = in-front at 0 (lines_from (at + 1) outer) (lines_from (at + 1 + lines outer) inner) place n (line-count (at + 1) outer ∙ sym count) differs low;
+    line = in-front at 0 (lines_from (at + 1) outer) (lines_from (at + 1 + line_count outer) inner) place n (line-count (at + 1) outer ∙ sym count) differs low;
     own = in-front (own_pair c q (merge keys outer inner)) (0, 0) (own_numbers c q outer) (own_numbers c q inner) place n (own-count outer ∙ sym count) differs low;
     costable = λ h. h.2;
     admissible = λ some h. lt_of_le_of_lt (merge-most c q keys outer inner).0 h;
   })
 
-  pub inner-of-nest : (p outer inner : Plan) (at place n l : ℕ) → p ≡ nest outer inner → n ≡ nodes outer → l ≡ lines outer → place ≢ 0 → n ≤ place - 1 → place < nodes p → IsPart c q p at place inner (at + 1 + l) (place - 1 - n)
+  pub inner-of-nest : (p outer inner : Plan) (at place n l : ℕ) → p ≡ nest outer inner → n ≡ nodes outer → l ≡ line_count outer → place ≢ 0 → n ≤ place - 1 → place < nodes p → IsPart c q p at place inner (at + 1 + l) (place - 1 - n)
   inner-of-nest p outer inner at place n l e count long differs low = subst (IsFound at place inner (at + 1 + l) (place - 1 - n)) (sym e) (λ lt. record {
     within = omega (arith, low, count, differs, lt);
     few = omega (arith, long);
-    line = ap (λ (k : ℕ). get_or (lines_from (at + 1 + k) inner) (place - 1 - n) 0) long ∙ in-back at 0 (lines_from (at + 1) outer) (lines_from (at + 1 + lines outer) inner) place n (line-count (at + 1) outer ∙ sym count) differs low;
+    line = ap (λ (k : ℕ). get_or (lines_from (at + 1 + k) inner) (place - 1 - n) 0) long ∙ in-back at 0 (lines_from (at + 1) outer) (lines_from (at + 1 + line_count outer) inner) place n (line-count (at + 1) outer ∙ sym count) differs low;
     own = in-back (own_pair c q (nest outer inner)) (0, 0) (own_numbers c q outer) (own_numbers c q inner) place n (own-count outer ∙ sym count) differs low;
     costable = λ h. h.1;
     admissible = λ some h. lt_of_le_of_lt (nest-most c q some outer inner).1 h;
   })
 
-  pub inner-of-merge : (p outer inner : Plan) (keys : Keys) (at place n l : ℕ) → p ≡ merge keys outer inner → n ≡ nodes outer → l ≡ lines outer → place ≢ 0 → n ≤ place - 1 → place < nodes p → IsPart c q p at place inner (at + 1 + l) (place - 1 - n)
+  pub inner-of-merge : (p outer inner : Plan) (keys : Keys) (at place n l : ℕ) → p ≡ merge keys outer inner → n ≡ nodes outer → l ≡ line_count outer → place ≢ 0 → n ≤ place - 1 → place < nodes p → IsPart c q p at place inner (at + 1 + l) (place - 1 - n)
   inner-of-merge p outer inner keys at place n l e count long differs low = subst (IsFound at place inner (at + 1 + l) (place - 1 - n)) (sym e) (λ lt. record {
     within = omega (arith, low, count, differs, lt);
     few = omega (arith, long);
-    line = ap (λ (k : ℕ). get_or (lines_from (at + 1 + k) inner) (place - 1 - n) 0) long ∙ in-back at 0 (lines_from (at + 1) outer) (lines_from (at + 1 + lines outer) inner) place n (line-count (at + 1) outer ∙ sym count) differs low;
+    line = ap (λ (k : ℕ). get_or (lines_from (at + 1 + k) inner) (place - 1 - n) 0) long ∙ in-back at 0 (lines_from (at + 1) outer) (lines_from (at + 1 + line_count outer) inner) place n (line-count (at + 1) outer ∙ sym count) differs low;
     own = in-back (own_pair c q (merge keys outer inner)) (0, 0) (own_numbers c q outer) (own_numbers c q inner) place n (own-count outer ∙ sym count) differs low;
     costable = λ h. h.3;
     admissible = λ some h. lt_of_le_of_lt (merge-most c q keys outer inner).1 h;

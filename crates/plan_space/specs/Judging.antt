@@ -7,7 +7,7 @@ use Rattle.plan_tree.specs.Plans.{Plan, seq, index, index_only, bitmap, sort, ne
 use Rattle.plan_tree.specs.Costs.{cost}
 use Rattle.plan_tree.specs.Least.{IsAdmissible}
 use Rattle.plan_tree.specs.Space.{IsBuilt, IsFinished}
-use Rattle.plan_space.specs.Numbered.{Pair, lines, lines_from, nodes, own_numbers}
+use Rattle.plan_space.specs.Numbered.{CostAndRows, line_count, lines_from, nodes, own_numbers}
 use Rattle.plan_space.specs.declared.judged.Judged.{Judged}
 use Rattle.plan_space.specs.declared.judged.Judged.TheVariants.{Good, Outside, Limit, Number}
 
@@ -17,12 +17,12 @@ unsorted (sort keys input) = unsorted input
 unsorted p = p
 
 -- the cost of a pair is another than the own one, or the cost is the own one and the rows are others
-abbrev pub IsWrongPair : Bool → Pair → Pair → ℕ → ℕ → Type 0
+abbrev pub IsWrongPair : Bool → CostAndRows → CostAndRows → ℕ → ℕ → Type 0
 IsWrongPair true pair own printed is = (printed ≡ pair.0) × (is ≡ own.0) × (printed ≢ is)
 IsWrongPair false pair own printed is = (pair.0 ≡ own.0) × (printed ≡ pair.1) × (is ≡ own.1) × (printed ≢ is)
 
 -- an answer that names the line and the wrong number of a pair
-abbrev pub IsWrong : ℕ → Pair → Pair → Judged → Type 0
+abbrev pub IsWrong : ℕ → CostAndRows → CostAndRows → Judged → Type 0
 IsWrong line pair own (Number at is_cost printed is) = (at ≡ line) × IsWrongPair is_cost pair own printed is
 IsWrong line pair own _ = ⊥
 
@@ -43,9 +43,9 @@ module _ (c : Contents) (q : Query) where
   IsOutside at (bitmap r p bits) line = (¬ IsBuilt c q (bitmap r p bits)) × (line ≡ at)
   IsOutside at (sort keys input) line = IsOutside (at + 1) input line
   IsOutside at (nest outer inner) line =
-      IsOutside (at + 1) outer line ⊎ ((IsBuilt c q (unsorted outer) × IsOutside (at + 1 + lines outer) inner line) ⊎ (IsBadJoin (nest outer inner) outer inner × (line ≡ at)))
+      IsOutside (at + 1) outer line ⊎ ((IsBuilt c q (unsorted outer) × IsOutside (at + 1 + line_count outer) inner line) ⊎ (IsBadJoin (nest outer inner) outer inner × (line ≡ at)))
   IsOutside at (merge keys outer inner) line =
-      IsOutside (at + 1) outer line ⊎ ((IsBuilt c q (unsorted outer) × IsOutside (at + 1 + lines outer) inner line) ⊎ (IsBadJoin (merge keys outer inner) outer inner × (line ≡ at)))
+      IsOutside (at + 1) outer line ⊎ ((IsBuilt c q (unsorted outer) × IsOutside (at + 1 + line_count outer) inner line) ⊎ (IsBadJoin (merge keys outer inner) outer inner × (line ≡ at)))
 
   -- a plan is not finished by a line: that of the first node that is none, or line 1 where all are but the whole is not
   -- finished
@@ -54,7 +54,7 @@ module _ (c : Contents) (q : Query) where
 
   -- the first node with a wrong number, from the top: its line, whether the cost is wrong or the rows are, the number that is
   -- written and the node's own
-  pub record IsWrongNumber (p : Plan) (ns : List Pair) (line : ℕ) (is_cost : Bool) (printed own : ℕ) : Type 0 where
+  pub record IsWrongNumber (p : Plan) (ns : List CostAndRows) (line : ℕ) (is_cost : Bool) (printed own : ℕ) : Type 0 where
     pub node : ℕ
     pub within : node < nodes p
     pub before : take node ns ≡ take node (own_numbers c q p)
@@ -62,19 +62,19 @@ module _ (c : Contents) (q : Query) where
     pub wrong : IsWrongPair is_cost (get_or ns node (0, 0)) (get_or (own_numbers c q p) node (0, 0)) printed own
 
   -- an answer that names it
-  abbrev pub NamesWrong : Plan → List Pair → Judged → Type 0
+  abbrev pub NamesWrong : Plan → List CostAndRows → Judged → Type 0
   NamesWrong p ns (Number line is_cost printed own) = IsWrongNumber p ns line is_cost printed own
   NamesWrong p ns _ = ⊥
 
   -- a finished plan below the limit with its own numbers
-  pub record IsGood (p : Plan) (ns : List Pair) : Type 0 where
+  pub record IsGood (p : Plan) (ns : List CostAndRows) : Type 0 where
     pub finished : IsFinished c q p
     pub admissible : IsAdmissible c q p
     pub numbers : ns ≡ own_numbers c q p
 
   -- the causes of each answer, which shut each other out: no finished plan, one at the limit or past it, one below it with a
   -- wrong number, and a good one
-  abbrev pub IsJudged : Plan → List Pair → Judged → Type 0
+  abbrev pub IsJudged : Plan → List CostAndRows → Judged → Type 0
   IsJudged p ns Good = IsGood p ns
   IsJudged p ns (Outside line) = IsUnfinished p line
   IsJudged p ns Limit = IsFinished c q p × (MOST_COST ≤ (cost c q p).total)

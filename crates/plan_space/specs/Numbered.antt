@@ -7,8 +7,8 @@ use Rattle.plan_tree.specs.Plans.{Plan, seq, index, index_only, bitmap, sort, ne
 use Rattle.plan_tree.specs.Costs.{cost, estimate}
 
 -- a cost in all, and a number of rows
-abbrev pub Pair : Type 0
-Pair = ℕ × ℕ
+abbrev pub CostAndRows : Type 0
+CostAndRows = ℕ × ℕ
 
 -- the nodes with numbers: all but those of bitmap trees
 abbrev pub nodes : Plan → ℕ
@@ -32,14 +32,14 @@ abbrev mutual
   all_bit_lines (tree_and b bs) = bit_lines b + all_bit_lines bs
 
 -- the lines of a plan
-abbrev pub lines : Plan → ℕ
-lines (seq r) = 1
-lines (index r i backward p) = 1
-lines (index_only r i backward p) = 1
-lines (bitmap r p bits) = 1 + bit_lines bits
-lines (sort keys input) = 1 + lines input
-lines (nest outer inner) = 1 + (lines outer + lines inner)
-lines (merge keys outer inner) = 1 + (lines outer + lines inner)
+abbrev pub line_count : Plan → ℕ
+line_count (seq r) = 1
+line_count (index r i backward p) = 1
+line_count (index_only r i backward p) = 1
+line_count (bitmap r p bits) = 1 + bit_lines bits
+line_count (sort keys input) = 1 + line_count input
+line_count (nest outer inner) = 1 + (line_count outer + line_count inner)
+line_count (merge keys outer inner) = 1 + (line_count outer + line_count inner)
 
 -- the lines in which the nodes stand, where the root's has a number
 abbrev pub lines_from : ℕ → Plan → List ℕ
@@ -48,17 +48,17 @@ lines_from at (index r i backward p) = at ∷ []
 lines_from at (index_only r i backward p) = at ∷ []
 lines_from at (bitmap r p bits) = at ∷ []
 lines_from at (sort keys input) = at ∷ lines_from (at + 1) input
-lines_from at (nest outer inner) = at ∷ (lines_from (at + 1) outer ++ lines_from (at + 1 + lines outer) inner)
-lines_from at (merge keys outer inner) = at ∷ (lines_from (at + 1) outer ++ lines_from (at + 1 + lines outer) inner)
+lines_from at (nest outer inner) = at ∷ (lines_from (at + 1) outer ++ lines_from (at + 1 + line_count outer) inner)
+lines_from at (merge keys outer inner) = at ∷ (lines_from (at + 1) outer ++ lines_from (at + 1 + line_count outer) inner)
 
 module _ (c : Contents) (q : Query) where
   -- what a plan costs in all, and its estimated rows
-  abbrev pub own_pair : Plan → Pair
+  abbrev pub own_pair : Plan → CostAndRows
   own_pair p = ((cost c q p).total, estimate c q p)
 
   -- the numbers that a plan's own nodes have to have printed: a node's before those beneath it, an outer side's before an
   -- inner's
-  abbrev pub own_numbers : Plan → List Pair
+  abbrev pub own_numbers : Plan → List CostAndRows
   own_numbers (seq r) = own_pair (seq r) ∷ []
   own_numbers (index r i backward p) = own_pair (index r i backward p) ∷ []
   own_numbers (index_only r i backward p) = own_pair (index_only r i backward p) ∷ []
@@ -68,5 +68,5 @@ module _ (c : Contents) (q : Query) where
   own_numbers (merge keys outer inner) = own_pair (merge keys outer inner) ∷ (own_numbers outer ++ own_numbers inner)
 
 -- the numbers of the node at a place, from 0, the root first
-abbrev pub own_numbers_at : Contents → Query → Plan → ℕ → Pair
+abbrev pub own_numbers_at : Contents → Query → Plan → ℕ → CostAndRows
 own_numbers_at c q p place = get_or (own_numbers c q p) place (0, 0)

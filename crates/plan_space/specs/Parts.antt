@@ -6,7 +6,7 @@ use Rattle.plan_tree.specs.Plans.{Plan}
 use Rattle.plan_tree.specs.Costable.{IsCostable}
 use Rattle.plan_tree.specs.Costs.{HaveRows}
 use Rattle.plan_tree.specs.Least.{IsAdmissible}
-use Rattle.plan_space.specs.Numbered.{lines, lines_from, nodes, own_numbers}
+use Rattle.plan_space.specs.Numbered.{line_count, lines_from, nodes, own_numbers}
 use Rattle.plan_tree.specs.Views.{plan}
 use Rattle.plan_space.specs.declared.own.Part.{Part}
 
@@ -14,7 +14,7 @@ use Rattle.plan_space.specs.declared.own.Part.{Part}
 -- costs, the other has too
 pub record IsPart (c : Contents) (q : Query) (p : Plan) (at place : ℕ) (x : Plan) (from n : ℕ) : Type 0 where
   pub within : n < nodes x
-  pub few : from + lines x ≤ at + lines p
+  pub few : from + line_count x ≤ at + line_count p
   pub line : get_or (lines_from from x) n 0 ≡ get_or (lines_from at p) place 0
   pub own : get_or (own_numbers c q x) n (0, 0) ≡ get_or (own_numbers c q p) place (0, 0)
   pub costable : IsCostable c q p → IsCostable c q x

@@ -8,7 +8,7 @@ ghost use Rattle.plan_tree.specs.Reads.{IsOverTables};
 ghost use Rattle.plan_tree.specs.Space.{IsBuilt, IsFinished};
 ghost use Rattle.plan_tree.specs.Views.{plan};
 ghost use Rattle.plan_space.specs.Judging.{IsJudged, IsWrong, NamesWrong, unsorted};
-ghost use Rattle.plan_space.specs.Numbered.{lines, nodes, own_numbers};
+ghost use Rattle.plan_space.specs.Numbered.{line_count, nodes, own_numbers};
 ghost use Rattle.plan_space.specs.declared.lines.TheConstants.{MOST_LINES};
 
 use crate::numbers::Written;
@@ -77,7 +77,7 @@ fn first_wrong(cat: &Catalog, q: &Prepared, p: &Plan, numbers: &[(u64, u64)]) ->
     requires rows { HaveRows cat.now q.now }
     requires costable { IsCostable cat.now q.now (plan p.now) }
     requires admissible { IsAdmissible cat.now q.now (plan p.now) }
-    requires few { lines (plan p.now) ≤ MOST_LINES }
+    requires few { line_count (plan p.now) ≤ MOST_LINES }
     requires count { length numbers.now ≡ nodes (plan p.now) }
     ensures none { IfNone result (numbers.now ≡ own_numbers cat.now q.now (plan p.now)) }
     ensures some { IfSome result (NamesWrong cat.now q.now (plan p.now) numbers.now) }
@@ -96,7 +96,7 @@ fn first_wrong(cat: &Catalog, q: &Prepared, p: &Plan, numbers: &[(u64, u64)]) ->
 fn judge_finished(cat: &Catalog, q: &Prepared, p: &Plan, numbers: &[(u64, u64)]) -> Judged
     requires query { IsOverTables cat.now q.now }
     requires finished { IsFinished cat.now q.now (plan p.now) }
-    requires few { lines (plan p.now) ≤ MOST_LINES }
+    requires few { line_count (plan p.now) ≤ MOST_LINES }
     requires count { length numbers.now ≡ nodes (plan p.now) }
     ensures { IsJudged cat.now q.now (plan p.now) numbers.now result }
 {
@@ -114,7 +114,7 @@ fn judge_finished(cat: &Catalog, q: &Prepared, p: &Plan, numbers: &[(u64, u64)])
 fn judge_built(cat: &Catalog, q: &Prepared, p: &Plan, numbers: &[(u64, u64)]) -> Judged
     requires query { IsOverTables cat.now q.now }
     requires built { IsBuilt cat.now q.now (unsorted (plan p.now)) }
-    requires few { lines (plan p.now) ≤ MOST_LINES }
+    requires few { line_count (plan p.now) ≤ MOST_LINES }
     requires count { length numbers.now ≡ nodes (plan p.now) }
     ensures { IsJudged cat.now q.now (plan p.now) numbers.now result }
 {
@@ -127,7 +127,7 @@ fn judge_built(cat: &Catalog, q: &Prepared, p: &Plan, numbers: &[(u64, u64)]) ->
 /// What is wrong with a plan and its numbers.
 fn judge_plan(cat: &Catalog, q: &Prepared, p: &Plan, numbers: &[(u64, u64)]) -> Judged
     requires query { IsOverTables cat.now q.now }
-    requires few { lines (plan p.now) ≤ MOST_LINES }
+    requires few { line_count (plan p.now) ≤ MOST_LINES }
     requires count { length numbers.now ≡ nodes (plan p.now) }
     ensures { IsJudged cat.now q.now (plan p.now) numbers.now result }
 {
@@ -142,7 +142,7 @@ fn judge_plan(cat: &Catalog, q: &Prepared, p: &Plan, numbers: &[(u64, u64)]) -> 
 /// nodes; it may be any tree by any relations, indexes and classes. It takes no memory.
 pub fn judge(cat: &Catalog, q: &Prepared, w: &Written) -> Judged
     requires query { IsOverTables cat.now q.now }
-    requires few { lines (plan w.now.plan) ≤ MOST_LINES }
+    requires few { line_count (plan w.now.plan) ≤ MOST_LINES }
     requires count { length w.now.numbers ≡ nodes (plan w.now.plan) }
     ensures judged { IsJudged cat.now q.now (plan w.now.plan) w.now.numbers result }
 {

@@ -3,7 +3,7 @@
 ghost use Rattle.std.specs.Prelude.{◌≡◌, ◌≤◌};
 ghost use Rattle.plan_tree.specs.Views.{bits, bits_all, plan};
 ghost use Rattle.plan_space.specs.Numbered as numbered;
-ghost use Rattle.plan_space.specs.Numbered.{bit_lines, all_bit_lines, lines, nodes};
+ghost use Rattle.plan_space.specs.Numbered.{bit_lines, all_bit_lines, line_count, nodes};
 ghost use Rattle.plan_space.specs.declared.lines.TheConstants.{MOST_LINES};
 
 use plan_tree::{BitTree, Plan};
@@ -39,8 +39,8 @@ fn lines_of_all(trees: &[BitTree]) -> u32
 
 /// How many lines the printed form of a plan has: one for each node, also for those of bitmap trees. The plan has at most 256.
 pub fn count_lines(p: &Plan) -> u32
-    requires few { lines (plan p.now) ≤ MOST_LINES }
-    ensures { result ≡ lines (plan p.now) }
+    requires few { line_count (plan p.now) ≤ MOST_LINES }
+    ensures { result ≡ line_count (plan p.now) }
 {
     match p {
         Plan::Seq { .. } => 1,
@@ -55,9 +55,9 @@ pub fn count_lines(p: &Plan) -> u32
 
 /// How many nodes of a plan have numbers: all but those of bitmap trees. The plan has at most 256 lines.
 pub fn count_nodes(p: &Plan) -> usize
-    requires few { lines (plan p.now) ≤ MOST_LINES }
+    requires few { line_count (plan p.now) ≤ MOST_LINES }
     ensures count { result ≡ nodes (plan p.now) }
-    ensures few { result ≤ lines (plan p.now) }
+    ensures few { result ≤ line_count (plan p.now) }
 {
     match p {
         Plan::Seq { .. } => 1,

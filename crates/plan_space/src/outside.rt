@@ -8,7 +8,7 @@ ghost use Rattle.plan_tree.specs.Reads.{IsOverTables};
 ghost use Rattle.plan_tree.specs.Space.{IsBuilt};
 ghost use Rattle.plan_tree.specs.Views.{plan};
 ghost use Rattle.plan_space.specs.Judging.{IsOutside, unsorted};
-ghost use Rattle.plan_space.specs.Numbered.{lines};
+ghost use Rattle.plan_space.specs.Numbered.{line_count};
 ghost use Rattle.plan_space.specs.declared.lines.TheConstants.{MOST_LINES};
 
 use crate::lines::count_lines;
@@ -102,7 +102,7 @@ fn unless(is: bool, line: u32) -> Option<u32>
 /// them. The plan may be any tree of at most 256 lines.
 pub(crate) fn first_outside(cat: &Catalog, q: &Prepared, p: &Plan, at: u32) -> Option<u32>
     requires query { IsOverTables cat.now q.now }
-    requires few { at + lines (plan p.now) ≤ MOST_LINES + 1 }
+    requires few { at + line_count (plan p.now) ≤ MOST_LINES + 1 }
     ensures some { IfSome result (λ line. IsOutside cat.now q.now at (plan p.now) line) }
     ensures none { IfNone result (IsBuilt cat.now q.now (unsorted (plan p.now))) }
 {

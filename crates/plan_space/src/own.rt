@@ -7,7 +7,7 @@ ghost use Rattle.plan_tree.specs.Least.{IsAdmissible};
 ghost use Rattle.plan_tree.specs.Reads.{IsOverTables};
 ghost use Rattle.plan_tree.specs.Views.{plan};
 ghost use Rattle.plan_space.specs.Parts.{IsFoundIn};
-ghost use Rattle.plan_space.specs.Numbered.{lines, lines_from, nodes, own_numbers_at, own_pair};
+ghost use Rattle.plan_space.specs.Numbered.{line_count, lines_from, nodes, own_numbers_at, own_pair};
 ghost use Rattle.plan_space.specs.declared.lines.TheConstants.{MOST_LINES};
 
 use crate::lines::{count_lines, count_nodes};
@@ -60,7 +60,7 @@ struct Part<'a> {
 
 /// The child of a plan in which the node of a place stands, where that is not the root; the root stands in line `at`.
 fn child_of(p: &Plan, at: u32, place: usize) -> Part<'_>
-    requires few { at + lines (plan p.now) ≤ MOST_LINES + 1 }
+    requires few { at + line_count (plan p.now) ≤ MOST_LINES + 1 }
     requires below { place ≢ 0 }
     requires within { place < nodes (plan p.now) }
     ensures part { IsFoundIn (plan p.now) at place result }
@@ -117,7 +117,7 @@ pub(crate) fn node_at(cat: &Catalog, q: &Prepared, p: &Plan, place: usize) -> No
     requires rows { HaveRows cat.now q.now }
     requires costable { IsCostable cat.now q.now (plan p.now) }
     requires admissible { IsAdmissible cat.now q.now (plan p.now) }
-    requires few { lines (plan p.now) ≤ MOST_LINES }
+    requires few { line_count (plan p.now) ≤ MOST_LINES }
     requires within { place < nodes (plan p.now) }
     ensures line { result.line ≡ get_or (lines_from 1 (plan p.now)) place 0 }
     ensures own { (result.cost, result.rows) ≡ own_numbers_at cat.now q.now (plan p.now) place }

@@ -23,7 +23,7 @@ use Rattle.index_match.specs.Arms.{arms_of, arm_parts, arm_bounds}
 use Rattle.eq_classes.proofs.ConditionLemmas.{listed_conds}
 use Rattle.index_match.specs.Numbered.{has_number}
 use Rattle.path_cost.specs.Costs.{arm_part, bitmap_cost, local_operators}
-use Rattle.path_cost.specs.Estimates.{kept, numbers_from, picked_from, table_pages, table_rows}
+use Rattle.path_cost.specs.Estimates.{kept, set_numbers_from, picked_from, table_pages, table_rows}
 use Rattle.path_cost.specs.Ranges.{conditions}
 use Rattle.path_cost.specs.Selectivity.{weights}
 use Rattle.path_cost.proofs.NumberLemmas.{numbers-same}
@@ -205,7 +205,7 @@ bitmap-costs c range t r p chosen used part exact same cut =
     ∙ ap (λ ns. capped_pair (bitmap_scan_cost (runs c range t p) (capped exact) (kept (table_rows c range r) (weights c range (conditions t) ns)) (table_pages c range r) (local_operators c range t r p))) numbers
     ∙ part-cut _ _ exact
   where
-    numbers : numbers_from 0 (length t.clauses) chosen ≡ numbers_from 0 (length t.clauses) used
+    numbers : set_numbers_from 0 (length t.clauses) chosen ≡ set_numbers_from 0 (length t.clauses) used
     numbers = numbers-same chosen used 0 (length t.clauses) (λ k low high. same k ∙ here-below k (length t.clauses) (used k) (omega (arith, high)))
 
 -- what an AND of a bitmap tree stands for

@@ -7,7 +7,7 @@ use Rattle.sql_query.specs.pg_value_value_Value.{Value}
 use Rattle.sql_query.specs.pg_value_value_Value_TheVariants.{Null}
 use Rattle.sql_query.specs.pg_value_Sorting.{in_order}
 use Rattle.sql_query.specs.pg_value_Truths.{is_true}
-use Rattle.sql_query.specs.opfamily_KeyOrder.{Entry, entry_order}
+use Rattle.sql_query.specs.opfamily_KeyOrder.{IndexEntry, entry_order}
 use Rattle.sql_query.specs.opfamily_classes_IndexKey.{IndexKey}
 use Rattle.sql_query.specs.opfamily_classes_Method.{Method}
 use Rattle.sql_query.specs.opfamily_classes_Method_TheVariants.{Btree, Hash}
@@ -29,7 +29,7 @@ meets_predicate None row = true
 meets_predicate (Some e) row = is_true (truth_at (λ (x : ColRef). cell row x.col) e)
 
 -- the entry of a row: its number, its key values, and the values that the index includes
-abbrev pub entry : Index → List Values → ℕ → Entry
+abbrev pub entry : Index → List Values → ℕ → IndexEntry
 entry d rows n = record {
   row = n;
   keys = map (λ (k : IndexKey). cell (slice_index_or rows n []) k.col) d.keys;
@@ -37,18 +37,18 @@ entry d rows n = record {
 }
 
 -- a B-tree has its entries in the order of its keys, equal ones by row; a hash index has them by row
-abbrev pub ordered : Method → List IndexKey → List Entry → List Entry
+abbrev pub ordered : Method → List IndexKey → List IndexEntry → List IndexEntry
 ordered Btree ks es = in_order (entry_order ks) es
 ordered Hash ks es = es
 
 -- the entries of an index over the rows of its table: those of the rows at which its predicate is True
-abbrev pub entries_over : Index → List Values → List Entry
+abbrev pub entries_over : Index → List Values → List IndexEntry
 entries_over d rows = ordered d.method d.keys (map (entry d rows) (filter (λ n. meets_predicate d.predicate (slice_index_or rows n [])) (range_with_len 0 (length rows))))
 
 -- the entries of an index of the catalogue over the rows that are stored of its table
-abbrev pub entries : World → IndexNo → List Entry
+abbrev pub entries : World → IndexNo → List IndexEntry
 entries w i = entries_over (index_at w.contents i) (stored_at w (index_at w.contents i).table).rows
 
 -- the rows of the entries, in their order
 abbrev pub entry_rows : World → IndexNo → List ℕ
-entry_rows w i = map (λ (e : Entry). e.row) (entries w i)
+entry_rows w i = map (λ (e : IndexEntry). e.row) (entries w i)

@@ -40,6 +40,10 @@ pub record StandsFor (c : Contents) (q : Query) (p other : Plan) : Type 0 where
 abbrev pub IsLeast : Contents → Query → Plan → Type 0
 IsLeast c q p = (other : Plan) → IsFinished c q other → IsAdmissible c q other → price c q p ≤ price c q other
 
+-- no finished plan is admissible: each costs 10^18 or more
+abbrev pub HasNoPlan : Contents → Query → Type 0
+HasNoPlan c q = (p : Plan) → IsFinished c q p → ¬ IsAdmissible c q p
+
 -- a plan that a statement may be answered by: finished, admissible, and of no greater price than any other such
 pub record IsBestPlan (c : Contents) (q : Query) (p : Plan) : Type 0 where
   pub finished : IsFinished c q p

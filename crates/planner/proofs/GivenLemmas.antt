@@ -13,14 +13,14 @@ use Rattle.pg_expr.specs.Cond.{Cond}
 use Rattle.catalog.specs.Contents.{Contents, indexes_of}
 use Rattle.eq_classes.specs.Clauses.{Clause, Set, one}
 use Rattle.eq_classes.specs.Listing.{clause_at}
-use Rattle.eq_classes.specs.Parts.{is_base, is_param}
+use Rattle.eq_classes.specs.Parts.{is_base, is_param, is_local}
 use Rattle.eq_classes.proofs.InsideLemmas.{column_both, names_inside}
 use Rattle.eq_classes.proofs.ListLemmas.{some_same}
 use Rattle.index_match.specs.Numbered.{Numbered, has_number, local}
 use Rattle.index_match.proofs.FoundLemmas.{chosen_numbers, those_are}
 use Rattle.index_match.proofs.PartLemmas.{conditions_local}
 use Rattle.path_cost.specs.Columns.{IsOver, is_column_in}
-use Rattle.path_cost.specs.Estimates.{conditions_from, conditions_where, is_local}
+use Rattle.path_cost.specs.Estimates.{conditions_from, conditions_where}
 use Rattle.path_cost.proofs.KeptLemmas.{where-from}
 use Rattle.sql_query.specs.Queries.{Query, width}
 use Rattle.plan_tree.specs.Bitmaps.{AreElements, Element, HasArms, HaveArms, IsBitTree, IsElement, IsTreeOver, MOST_ELEMENTS, by_clause, by_index, candidates, element_of, elements_of, some_uses, table_of_relation, uses}

@@ -8,7 +8,7 @@ use Rattle.pg_base.specs.declared.numbers.RelNo.{RelNo}
 use Rattle.pg_expr.specs.Columns.{names_rel}
 use Rattle.pg_expr.specs.Cond.{Cond}
 use Rattle.catalog.specs.Contents.{Contents}
-use Rattle.eq_classes.specs.Clauses.{Clause, Set, Source, by_conjunct, by_class, by_pair, one}
+use Rattle.eq_classes.specs.Clauses.{Clause, Set, ClauseSource, by_conjunct, by_class, by_pair, one}
 use Rattle.eq_classes.specs.Listing.{clause_at, conjunct_of}
 use Rattle.eq_classes.specs.Parts.{is_inside, is_lowest, is_param, is_param_from, names_some, union}
 use Rattle.eq_classes.proofs.ClassLemmas.{first_inside, first_of_own, lowest_at, lowest_is}
@@ -58,7 +58,7 @@ at-some f chosen (x ∷ ks) a (suc n) lt is h =
 
 -- a clause that is tested given some rows comes from a conjunct that names the relation, or is tested given the row of one of
 -- these relations
-conjunct-or-one : (r : ℕ) (p : Set) (e : Cond) (s : Source) → is_param_from r p e s ≡ true →
+conjunct-or-one : (r : ℕ) (p : Set) (e : Cond) (s : ClauseSource) → is_param_from r p e s ≡ true →
     (is_some (conjunct_of s) && names_rel r e ≡ true) ⊎ ((m : ℕ) × (p m ≡ true) × (is_param_from r (one m) e s ≡ true))
 conjunct-or-one r p e (by_conjunct n) h =
     inl (and_parts (names_rel r e) (names_some p e) (and_parts (is_inside (union (one r) p) e) (names_rel r e && names_some p e) h).1).0

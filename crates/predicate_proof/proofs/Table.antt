@@ -10,7 +10,7 @@ use Rattle.pg_value.specs.declared.operators.Op.{Op}
 use Rattle.pg_value.specs.declared.operators.Op.TheVariants.{Lt, Le, Eq, Ge, Gt, Ne, AbsLt, AbsLe, AbsEq, AbsGe, AbsGt}
 use Rattle.pg_value.specs.declared.value.Value.{Value}
 use Rattle.pg_value.specs.Truths.{accepts}
-use Rattle.predicate_proof.specs.Atoms.{plain, cell}
+use Rattle.predicate_proof.specs.Atoms.{plain, implication_cell}
 
 -- how x can stand to w, where it stands so to v and w stands so to v
 abbrev can_stand : Ordering → Ordering → Ordering → Bool
@@ -25,7 +25,7 @@ can_stand _ _ o = true
 
 -- where x meets the clause's operator and w the table's cell, x meets the predicate's operator
 abbrev is_sound_at : Op → Op → Ordering → Ordering → Ordering → Bool
-is_sound_at op other xv wv xw = not (can_stand xv wv xw && accepts op xv && cell (plain op) (plain other) wv) || accepts other xw
+is_sound_at op other xv wv xw = not (can_stand xv wv xw && accepts op xv && implication_cell (plain op) (plain other) wv) || accepts other xw
 
 abbrev ops : List Op
 ops = Lt ∷ Le ∷ Eq ∷ Ge ∷ Gt ∷ Ne ∷ AbsLt ∷ AbsLe ∷ AbsEq ∷ AbsGe ∷ AbsGt ∷ []
@@ -87,5 +87,5 @@ module _ (cmp : Value → Value → Ordering) (total : IsTotalOrder cmp) (x v w 
   stands Greater Equal p q = ap is_gt (turned w x Less (total.congr w v x q ∙ turned x v Greater p))
   stands Greater Greater p q = refl
 
-  pub cell-sound : (op other : Op) → accepts op (cmp x v) ≡ true → cell (plain op) (plain other) (cmp w v) ≡ true → accepts other (cmp x w) ≡ true
+  pub cell-sound : (op other : Op) → accepts op (cmp x v) ≡ true → implication_cell (plain op) (plain other) (cmp w v) ≡ true → accepts other (cmp x w) ≡ true
   cell-sound op other clause holds = applied _ _ _ _ (table-at op other (cmp x v) (cmp w v) (cmp x w)) (stands (cmp x v) (cmp w v) refl refl) clause holds

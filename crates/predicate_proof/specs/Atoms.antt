@@ -83,32 +83,32 @@ plain AbsGt = Gt
 plain op = op
 
 -- the table: the operators of the clause and of the predicate, and how the predicate's literal has to stand to the clause's
-abbrev pub cell : Op → Op → Ordering → Bool
-cell Lt Lt = is_ge
-cell Lt Le = is_ge
-cell Lt Ne = is_ge
-cell Le Lt = is_gt
-cell Le Le = is_ge
-cell Le Ne = is_gt
-cell Eq Lt = is_gt
-cell Eq Le = is_ge
-cell Eq Eq = is_eq
-cell Eq Ge = is_le
-cell Eq Gt = is_lt
-cell Eq Ne = is_ne
-cell Ge Ge = is_le
-cell Ge Gt = is_lt
-cell Ge Ne = is_lt
-cell Gt Ge = is_le
-cell Gt Gt = is_le
-cell Gt Ne = is_le
-cell Ne Ne = is_eq
-cell _ _ = λ _. false
+abbrev pub implication_cell : Op → Op → Ordering → Bool
+implication_cell Lt Lt = is_ge
+implication_cell Lt Le = is_ge
+implication_cell Lt Ne = is_ge
+implication_cell Le Lt = is_gt
+implication_cell Le Le = is_ge
+implication_cell Le Ne = is_gt
+implication_cell Eq Lt = is_gt
+implication_cell Eq Le = is_ge
+implication_cell Eq Eq = is_eq
+implication_cell Eq Ge = is_le
+implication_cell Eq Gt = is_lt
+implication_cell Eq Ne = is_ne
+implication_cell Ge Ge = is_le
+implication_cell Ge Gt = is_lt
+implication_cell Ge Ne = is_lt
+implication_cell Gt Ge = is_le
+implication_cell Gt Gt = is_le
+implication_cell Gt Ne = is_le
+implication_cell Ne Ne = is_eq
+implication_cell _ _ = λ _. false
 
 -- both literals are values of the family, and its order meets the table's cell
 abbrev pub CellHolds : Option Family → Op → Value → Op → Value → Type 0
 CellHolds None op v other w = ⊥
-CellHolds (Some f) op v other w = IsFamilyValue f v × IsFamilyValue f w × IsTrue (cell (plain op) (plain other) (value_order f w v))
+CellHolds (Some f) op v other w = IsFamilyValue f v × IsFamilyValue f w × IsTrue (implication_cell (plain op) (plain other) (value_order f w v))
 
 -- a comparison of a column with a literal implies another of the same column: both operators are of one family, and the table's cell holds
 abbrev pub TableGives : List Column → Op → ColNo → Value → Op → ColNo → Value → Type 0

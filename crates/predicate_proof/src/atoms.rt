@@ -3,7 +3,7 @@
 ghost use Rattle.std.specs.Prelude.{◌≡◌, ◌↔◌, IsTrue, Some};
 ghost use Rattle.pg_expr.specs.Columns.{names_column};
 ghost use Rattle.pg_expr.specs.View.{cond};
-ghost use Rattle.predicate_proof.specs.Atoms.{CellHolds, ComparisonGives, Gives, IsFamilyValue, SameAtom, SameSide, cell, has_column_number, operator_family, plain, typed_family};
+ghost use Rattle.predicate_proof.specs.Atoms.{CellHolds, ComparisonGives, Gives, IsFamilyValue, SameAtom, SameSide, implication_cell, has_column_number, operator_family, plain, typed_family};
 
 use opfamily::default_family;
 use pg_base::ColNo;
@@ -55,7 +55,7 @@ fn plain(op: Op) -> Op
 
 /// Whether a comparison with a literal implies another one, where the other's literal stands so to the first's.
 fn cell(op: Op, other: Op, order: Ordering) -> bool
-    ensures { result ≡ cell op other order }
+    ensures { result ≡ implication_cell op other order }
 {
     match (op, other) {
         (Op::Lt, Op::Lt | Op::Le | Op::Ne) | (Op::Le | Op::Eq, Op::Le) => order.is_ge(),

@@ -9,7 +9,7 @@ use Rattle.catalog.specs.Range.{Range}
 use Rattle.catalog.specs.Tables.{table_named}
 use Rattle.sql_grammar.specs.FromParts.{groups_after}
 use Rattle.sql_grammar.specs.Terminals.{Terminal}
-use Rattle.sql_grammar.specs.Syntax.{Mark, Where, OrderBy, Window, no_alias, bare_alias, as_alias, Expr, Relation, relation, no_inner, inner, Join, join_on, cross_join, Group, group_of}
+use Rattle.sql_grammar.specs.Syntax.{Mark, Where, OrderBy, WindowTree, no_alias, bare_alias, as_alias, Expr, Relation, relation, no_inner, inner, Join, join_on, cross_join, Group, group_of}
 use Rattle.sql_grammar.specs.Words.{words_of_group, words_of_groups, words_of_join, words_of_joins, words_of_relation}
 use Rattle.expr_reader.specs.declared.cursor.Spelled.{Spelled}
 use Rattle.expr_reader.proofs.Named.{AreNamed}
@@ -108,12 +108,12 @@ all-named j i g gs rest words h is =
     next-named (with_group j g) (λ k. with_groups k (groups_after gs)) i (λ k. group-named j k g (before-words (words_of_group g) (words_of_groups gs ++ rest) words) h)
     (λ k f. groups-named k i gs (before-words (words_of_groups gs) rest (after-words (words_of_group g) (words_of_groups gs ++ rest) words)) f) is
 
-names-by : (m : Result Joined Fault) (start : Token) (items : List Item) (w : Where) (y : OrderBy) (v : Window) (q : Query) → ((j : Joined) → m ≡ Ok j → HasNames j) → IsBoundAs (next m (bound_over start items w y v)) (Ok q) → All (λ r. IsName r.1) q.range
+names-by : (m : Result Joined Fault) (start : Token) (items : List Item) (w : Where) (y : OrderBy) (v : WindowTree) (q : Query) → ((j : Joined) → m ≡ Ok j → HasNames j) → IsBoundAs (next m (bound_over start items w y v)) (Ok q) → All (λ r. IsName r.1) q.range
 names-by (Ok j) start items w y v q has h = subst (λ (r : Range). All (λ x. IsName x.1) r) (sym (over-range start items w y v j q h)) (has j refl)
 names-by (Err f) start items w y v q has h = absurd h
 
 -- a query whose statement has names within the limits
-pub named-query : (c : Contents) (start : Token) (items : List Item) (g : Group) (gs : List (Mark × Group)) (w : Where) (y : OrderBy) (v : Window) (rest : List Terminal) (P : Query → Type 0) (r : Result Query Refusal) →
+pub named-query : (c : Contents) (start : Token) (items : List Item) (g : Group) (gs : List (Mark × Group)) (w : Where) (y : OrderBy) (v : WindowTree) (rest : List Terminal) (P : Query → Type 0) (r : Result Query Refusal) →
     AreNamed (words_of_group g ++ (words_of_groups gs ++ rest)) → IsBoundAs (bound_from c start items (g ∷ groups_after gs) w y v) r → IfOk r (λ q. All (λ x. IsName x.1) q.range → P q) → IfOk r P
 named-query c start items g gs w y v rest P (Ok q) words read has =
     has (names-by (with_groups (nothing_joined c) (g ∷ groups_after gs)) start items w y v q (λ j. all-named (nothing_joined c) j g gs rest words (All-nil (λ (r : TableNo × List ℕ). IsName r.1))) read)

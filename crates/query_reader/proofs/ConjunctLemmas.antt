@@ -28,9 +28,10 @@ use Rattle.eq_classes.proofs.WrittenLemmas.{in_columns, in_typed}
 use Rattle.path_cost.specs.Columns.{IsOver, is_column_in}
 use Rattle.sql_query.specs.WellBound.{IsColumnOf, IsWithinLimits, NamesOnly}
 use Rattle.query_reader.specs.Binding.{past_limit}
-use Rattle.query_reader.specs.Named.{column_in, columns_in, columns_in_all}
+use Rattle.query_reader.specs.Named.{columns_in, columns_in_all}
 use Rattle.pg_base.proofs.NumberLemmas.{below}
 use Rattle.eq_classes.proofs.ConditionLemmas.{listed_conds as listed-conds}
+use Rattle.eq_classes.specs.Grouping.{operand_columns}
 
 -- a list of expressions, seen as conditions
 pub listed-as : (es : List Expr) (cs : Conds) → view.conds es ≡ cs → map view.cond es ≡ listed cs
@@ -127,11 +128,11 @@ module _ (c : Contents) (range : Range) (ws : List Cond) (over : All (IsOver c r
 
 -- the columns that a condition names: a test that they pass, it passes, and the other way round
 module _ (test : ColRef → Bool) where
-  side-passes : (o : Operand) → ((x : ColRef) → IsIn x (column_in o) → test x ≡ true) → passes_column test o ≡ true
+  side-passes : (o : Operand) → ((x : ColRef) → IsIn x (operand_columns o) → test x ≡ true) → passes_column test o ≡ true
   side-passes (Col c) h = h c (inl refl)
   side-passes (Lit v) h = refl
 
-  side-named : (o : Operand) → passes_column test o ≡ true → (x : ColRef) → IsIn x (column_in o) → test x ≡ true
+  side-named : (o : Operand) → passes_column test o ≡ true → (x : ColRef) → IsIn x (operand_columns o) → test x ≡ true
   side-named (Col c) h x i = ⊎_elim (λ (e : x ≡ c). ap test e ∙ h) (λ (none : ⊥). absurd none) i
   side-named (Lit v) h x i = absurd i
 
@@ -140,7 +141,7 @@ module _ (test : ColRef → Bool) where
 
   mutual
     pub names-pass : (e : Cond) → ((x : ColRef) → IsIn x (columns_in e) → test x ≡ true) → each_column test e ≡ true
-    names-pass (compare op l r) h = and_from _ _ (side-passes l (λ x i. h x (in_left x (column_in l) (column_in r) i))) (side-passes r (λ x i. h x (in_right x (column_in l) (column_in r) i)))
+    names-pass (compare op l r) h = and_from _ _ (side-passes l (λ x i. h x (in_left x (operand_columns l) (operand_columns r) i))) (side-passes r (λ x i. h x (in_right x (operand_columns l) (operand_columns r) i)))
     names-pass (is_null c) h = h c (inl refl)
     names-pass (is_not_null c) h = h c (inl refl)
     names-pass (bool_col c) h = h c (inl refl)
@@ -157,7 +158,7 @@ module _ (test : ColRef → Bool) where
     pub pass-named : (e : Cond) → each_column test e ≡ true → (x : ColRef) → IsIn x (columns_in e) → test x ≡ true
     pass-named (compare op l r) h x i =
         let parts = and_parts (passes_column test l) (passes_column test r) h in
-        ⊎_elim (λ (a : IsIn x (column_in l)). side-named l parts.0 x a) (λ (a : IsIn x (column_in r)). side-named r parts.1 x a) (in_parts x (column_in l) (column_in r) i)
+        ⊎_elim (λ (a : IsIn x (operand_columns l)). side-named l parts.0 x a) (λ (a : IsIn x (operand_columns r)). side-named r parts.1 x a) (in_parts x (operand_columns l) (operand_columns r) i)
     pass-named (is_null c) h x i = alone-named c x h i
     pass-named (is_not_null c) h x i = alone-named c x h i
     pass-named (bool_col c) h x i = alone-named c x h i

@@ -17,7 +17,7 @@ use Rattle.eq_classes.specs.Classes.{listed}
 use Rattle.sql_lex.specs.declared.tokens.Token.{Token}
 use Rattle.sql_grammar.specs.Faults.{IsWhole}
 use Rattle.sql_grammar.specs.FromParts.{groups_after}
-use Rattle.sql_grammar.specs.Syntax.{Expr, Join, join_on, cross_join, Group, group_of, Where, no_where, where_expr, select_from, OrderBy, Window as WindowTree, WindowedSelect, windowed_select}
+use Rattle.sql_grammar.specs.Syntax.{Expr, Join, join_on, cross_join, Group, group_of, Where, no_where, where_expr, select_from, OrderBy, WindowTree, WindowedSelect, windowed_select}
 use Rattle.expr_reader.specs.declared.cursor.Spelled.{Spelled}
 use Rattle.sql_query.specs.Queries.{Query}
 use Rattle.expr_reader.specs.Conditions.{meaning_of_expr, next}

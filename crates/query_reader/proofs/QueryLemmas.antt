@@ -13,7 +13,7 @@ use Rattle.eq_classes.specs.declared.order.OrderItem.{OrderItem}
 use Rattle.eq_classes.specs.Clauses.{ClassTable}
 use Rattle.sql_lex.specs.declared.tokens.Token.{Token}
 use Rattle.sql_grammar.specs.Faults.{fault_at}
-use Rattle.sql_grammar.specs.Syntax.{Where, OrderBy, Window as WindowTree}
+use Rattle.sql_grammar.specs.Syntax.{Where, OrderBy, WindowTree}
 use Rattle.sql_grammar.specs.Terminals.{Terminal}
 use Rattle.expr_reader.specs.Reads.{Reads}
 use Rattle.expr_reader.proofs.StepLemmas.{step, stop}

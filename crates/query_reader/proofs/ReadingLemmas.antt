@@ -7,7 +7,7 @@ use Rattle.pg_base.specs.declared.faults.Refusal.TheVariants as refusal
 use Rattle.sql_lex.specs.declared.tokens.Token.{Token}
 use Rattle.sql_grammar.specs.Terminals.{Terminal, t_key, t_semicolon, t_end}
 use Rattle.sql_grammar.specs.declared.class.Word.TheVariants.{From, Limit as LimitKey, Offset as OffsetKey}
-use Rattle.sql_grammar.specs.Syntax.{Key, Mark, Output, Group, Where, select_from, OrderBy, no_order, order_by, no_limit, most_rows, no_offset, skipped_rows, Window, window, WindowedSelect, windowed_select}
+use Rattle.sql_grammar.specs.Syntax.{Key, Mark, Output, Group, Where, select_from, OrderBy, no_order, order_by, no_limit, most_rows, no_offset, skipped_rows, WindowTree, window, WindowedSelect, windowed_select}
 use Rattle.sql_grammar.specs.Words.{words_of_output, words_of_outputs, words_of_group, words_of_groups, words_of_where, words_of_order, words_of_window, words_of_windowed}
 use Rattle.sql_grammar.specs.Reading.{terminal_of}
 use Rattle.sql_grammar.specs.Faults.{terminals}
@@ -34,7 +34,7 @@ taken-named (suc n) [] h = tt
 taken-named (suc n) (w ∷ ws) h = (h.0, taken-named n ws h.1)
 
 -- what stands behind FROM
-abbrev pub behind : Where → OrderBy → Window → List Terminal
+abbrev pub behind : Where → OrderBy → WindowTree → List Terminal
 behind w y v = words_of_where w ++ (words_of_order y ++ (words_of_window v ++ []))
 
 -- the parts of a SELECT whose words are left after SELECT
@@ -46,7 +46,7 @@ pub record Parted (x : WindowedSelect) (left : List Terminal) : Type 0 where
   pub groups : List (Mark × Group)
   pub condition : Where
   pub order : OrderBy
-  pub window : Window
+  pub window : WindowTree
   pub split : left ≡ words_of_output first ++ (words_of_outputs more ++ t_key From from_at ∷ (words_of_group group ++ (words_of_groups groups ++ behind condition order window)))
   pub means : (c : Contents) (start : Token) → bound_from c start (item_of first ∷ items_of more) (group ∷ groups_after groups) condition order window ≡ bound_part c start x
 
@@ -91,7 +91,7 @@ ends-where no_order (t_end t ∷ rest) ends = refl
 ends-where no_order _ ends = absurd (cc (ends))
 ends-where (order_by k b o os) rest ends = refl
 
-pub ends-order : (v : Window) (rest : List Terminal) → ends_window rest ≡ true → ends_order (words_of_window v ++ rest) ≡ true
+pub ends-order : (v : WindowTree) (rest : List Terminal) → ends_window rest ≡ true → ends_order (words_of_window v ++ rest) ≡ true
 ends-order (window (most_rows p k n) o) rest ends = refl
 ends-order (window no_limit (skipped_rows p k n)) rest ends = refl
 ends-order (window no_limit no_offset) [] ends = refl

@@ -5,7 +5,7 @@ use Rattle.sql_lex.specs.declared.tokens.Token.{Token}
 use Rattle.sql_grammar.specs.declared.class.Word.TheVariants.{Limit as LimitKey, Offset as OffsetKey}
 use Rattle.sql_grammar.specs.declared.offered.TheConstants.{READS_WINDOW}
 use Rattle.sql_grammar.specs.Terminals.{Terminal, Said, t_key, t_number}
-use Rattle.sql_grammar.specs.Syntax.{IsOffered, Limit, no_limit, most_rows, Offset, no_offset, skipped_rows}
+use Rattle.sql_grammar.specs.Syntax.{IsOffered, LimitTree, no_limit, most_rows, Offset, no_offset, skipped_rows}
 use Rattle.sql_grammar.specs.Words.{words_of_limit, words_of_offset}
 use Rattle.expr_reader.specs.Reading.{BeginsNot}
 use Rattle.expr_reader.specs.Conditions.{next}
@@ -14,19 +14,19 @@ use Rattle.query_reader.specs.Ends.{ends_limit, ends_window}
 use Rattle.query_reader.specs.Windows.{most_of, skipped_of}
 
 -- LIMIT is next: its number
-pub record MostThere (l : Limit) (rest left : List Terminal) : Type 0 where
+pub record MostThere (l : LimitTree) (rest left : List Terminal) : Type 0 where
   pub offered : IsOffered READS_WINDOW
   pub key : Token
   pub number : Said
   pub is : l ≡ most_rows offered key number
   pub words : left ≡ t_number number ∷ rest
 
-pub most-there : (l : Limit) (rest old left : List Terminal) (k : Token) → ends_limit rest ≡ true → old ≡ words_of_limit l ++ rest → old ≡ t_key LimitKey k ∷ left → MostThere l rest left
+pub most-there : (l : LimitTree) (rest old left : List Terminal) (k : Token) → ends_limit rest ≡ true → old ≡ words_of_limit l ++ rest → old ≡ t_key LimitKey k ∷ left → MostThere l rest left
 most-there no_limit rest old left k ends is took = let wrong = ap ends_limit (sym took ∙ is) ∙ ends in absurd (cc (wrong))
 most-there (most_rows p key n) rest old left k ends is took = record { offered = p; key = key; number = n; is = refl; words = ap (drop 1) (sym took ∙ is) }
 
 -- LIMIT is not next
-pub no-most : (l : Limit) (rest old new : List Terminal) → BeginsNot (t_key LimitKey) old → new ≡ old → old ≡ words_of_limit l ++ rest → (Ok None ≡ most_of l) × (new ≡ rest)
+pub no-most : (l : LimitTree) (rest old new : List Terminal) → BeginsNot (t_key LimitKey) old → new ≡ old → old ≡ words_of_limit l ++ rest → (Ok None ≡ most_of l) × (new ≡ rest)
 no-most no_limit rest old new other same is = (refl, same ∙ is)
 no-most (most_rows p k n) rest old new other same is = absurd (other _ (k, is))
 

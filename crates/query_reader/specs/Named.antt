@@ -1,19 +1,13 @@
 -- The columns that conditions name, from the left (own).
 use Rattle.std.specs.Prelude.{List, [], ◌∷◌, ◌++◌}
 use Rattle.pg_expr.specs.declared.operand.ColRef.{ColRef}
-use Rattle.pg_expr.specs.declared.operand.Operand.{Operand}
-use Rattle.pg_expr.specs.declared.operand.Operand.TheVariants.{Col, Lit}
+use Rattle.eq_classes.specs.Grouping.{operand_columns}
 use Rattle.pg_expr.specs.Cond.{Cond, compare, is_null, is_not_null, bool_col, const, all_of, any_of, negation, Conds, no_conds, cond_and}
-
--- the columns that an operand names
-abbrev pub column_in : Operand → List ColRef
-column_in (Col c) = c ∷ []
-column_in (Lit v) = []
 
 abbrev mutual
   -- the columns that a condition names
   pub columns_in : Cond → List ColRef
-  columns_in (compare op l r) = column_in l ++ column_in r
+  columns_in (compare op l r) = operand_columns l ++ operand_columns r
   columns_in (is_null c) = c ∷ []
   columns_in (is_not_null c) = c ∷ []
   columns_in (bool_col c) = c ∷ []

@@ -9,7 +9,7 @@ use Rattle.pg_expr.specs.View.{cond}
 use Rattle.eq_classes.specs.declared.order.OrderItem.{OrderItem}
 use Rattle.sql_grammar.specs.declared.class.Word.TheVariants.{From}
 use Rattle.sql_grammar.specs.Terminals.{Terminal, Ident, t_key, t_name}
-use Rattle.sql_grammar.specs.Syntax.{Mark, Output, Group, Where, OrderBy, Window}
+use Rattle.sql_grammar.specs.Syntax.{Mark, Output, Group, Where, OrderBy, WindowTree}
 use Rattle.sql_grammar.specs.Unique.{ends_expr, ends_operand}
 use Rattle.sql_grammar.specs.Words.{words_of_col, words_of_expr, words_of_group, words_of_groups, words_of_order, words_of_ordering, words_of_orderings, words_of_output, words_of_outputs, words_of_where, words_of_window}
 use Rattle.expr_reader.specs.declared.cursor.Spelled.{Spelled}
@@ -41,26 +41,26 @@ YieldsAfterName first meaning old read left =
 -- the parts of a SELECT behind its FROM stand first, and no word behind them goes on them
 abbrev pub StandsAfterFrom : List Terminal → Type 0
 StandsAfterFrom ts =
-    (w : Where) × (y : OrderBy) × (v : Window) × (rest : List Terminal) × (ends_window rest ≡ true) ×
+    (w : Where) × (y : OrderBy) × (v : WindowTree) × (rest : List Terminal) × (ends_window rest ≡ true) ×
     (ts ≡ words_of_where w ++ (words_of_order y ++ (words_of_window v ++ rest)))
 
 -- where the parts of a SELECT behind its FROM stand first, and no word behind them goes on them, this holds of them
-abbrev pub IfAfterFrom : List Terminal → (Where → OrderBy → Window → Type 0) → Type 0
+abbrev pub IfAfterFrom : List Terminal → (Where → OrderBy → WindowTree → Type 0) → Type 0
 IfAfterFrom ts P =
-    (w : Where) (y : OrderBy) (v : Window) (rest : List Terminal) → ends_window rest ≡ true →
+    (w : Where) (y : OrderBy) (v : WindowTree) (rest : List Terminal) → ends_window rest ≡ true →
     ts ≡ words_of_where w ++ (words_of_order y ++ (words_of_window v ++ rest)) → P w y v
 
 -- the groups of FROM and the parts behind it stand first, and no word behind them goes on them
 abbrev pub StandsFrom : List Terminal → Type 0
 StandsFrom ts =
-    (g : Group) × (gs : List (Mark × Group)) × (w : Where) × (y : OrderBy) × (v : Window) × (rest : List Terminal) ×
+    (g : Group) × (gs : List (Mark × Group)) × (w : Where) × (y : OrderBy) × (v : WindowTree) × (rest : List Terminal) ×
     (ends_window rest ≡ true) ×
     (ts ≡ words_of_group g ++ (words_of_groups gs ++ (words_of_where w ++ (words_of_order y ++ (words_of_window v ++ rest)))))
 
 -- where the groups of FROM and the parts behind it stand first, and no word behind them goes on them, this holds of them
-abbrev pub IfFrom : List Terminal → (Group → List (Mark × Group) → Where → OrderBy → Window → Type 0) → Type 0
+abbrev pub IfFrom : List Terminal → (Group → List (Mark × Group) → Where → OrderBy → WindowTree → Type 0) → Type 0
 IfFrom ts P =
-    (g : Group) (gs : List (Mark × Group)) (w : Where) (y : OrderBy) (v : Window) (rest : List Terminal) →
+    (g : Group) (gs : List (Mark × Group)) (w : Where) (y : OrderBy) (v : WindowTree) (rest : List Terminal) →
     ends_window rest ≡ true →
     ts ≡ words_of_group g ++ (words_of_groups gs ++ (words_of_where w ++ (words_of_order y ++ (words_of_window v ++ rest)))) →
     P g gs w y v

@@ -2,14 +2,15 @@
 
 ghost use Rattle.std.specs.Prelude.{◌≡◌, ◌++◌, IfOk};
 ghost use Rattle.pg_expr.specs.View.{cond, conds};
-ghost use Rattle.query_reader.specs.Named.{column_in, columns_in, columns_in_all};
+ghost use Rattle.query_reader.specs.Named.{columns_in, columns_in_all};
+ghost use Rattle.eq_classes.specs.Grouping.{operand_columns};
 
 use pg_base::Memory;
 use pg_expr::{ColRef, Expr, Operand};
 use std::alloc::Global;
 
 fn column_in(alloc: Global, o: &Operand) -> Result<Vec<ColRef>, Memory>
-    ensures { IfOk result (λ xs. xs.items ≡ column_in o.now) }
+    ensures { IfOk result (λ xs. xs.items ≡ operand_columns o.now) }
 {
     let mut all = Vec::new(alloc);
     if let Operand::Col(c) = o {

@@ -4,7 +4,7 @@ ghost use Rattle.std.specs.Prelude.{◌≡◌, List, ◌∷◌, OnOk};
 ghost use Rattle.sql_grammar.specs.Terminals.{Terminal, Said, t_number};
 ghost use Rattle.sql_grammar.specs.Words.{words_of_limit, words_of_offset, words_of_window};
 ghost use Rattle.query_reader.specs.Ends.{ends_limit, ends_window};
-ghost use Rattle.query_reader.specs.Windows.{most_of, rows_of, skipped_of, window_by, window_of};
+ghost use Rattle.query_reader.specs.Windows.{most_of, rows_written, skipped_of, window_by, window_of};
 ghost use Rattle.expr_reader.specs.Reading.{StandsFirst, IfFirst, Yields, YieldsNext};
 
 use expr_reader::Cursor;
@@ -15,7 +15,7 @@ use sql_query::Window;
 /// The number of rows that is next, or its fault.
 fn rows(from: &mut Cursor) -> Result<u64, Fault>
     requires { (n : Said) × (rest : List Terminal) × (from.old ≡ t_number n ∷ rest) }
-    ensures { YieldsNext t_number rows_of from.old result from.new }
+    ensures { YieldsNext t_number rows_written from.old result from.new }
 {
     let Some(number) = from.number() else {
         unreachable!();

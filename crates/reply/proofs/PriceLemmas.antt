@@ -7,7 +7,7 @@ use Rattle.cost_rules.specs.declared.pair.Pair.{Pair}
 use Rattle.path_cost.specs.Estimates.{set_rows}
 use Rattle.sql_query.specs.Queries.{Query, all_of_query}
 use Rattle.sql_query.specs.declared.window.Window.{Window}
-use Rattle.explain.specs.Texts.{limit_text, line_by, window_line}
+use Rattle.explain.specs.Texts.{rows_limit_text, line_by, window_line}
 use Rattle.plan_tree.specs.Costs.{HaveRows, asked, cost, price, query_rows, rows_given}
 use Rattle.plan_tree.specs.Least.{IsAdmissible}
 use Rattle.plan_tree.specs.Paths.{IsFinishedPath, Path, kept_cost}
@@ -38,5 +38,5 @@ module _ (c : Contents) (q : Query) (p : Path) (h : IsFinishedPath c q p) where
       uncut-kept q.window (cost c q p.tree) x (startup-most c q some p.tree) e (omega (arith, total, admissible))
 
   -- the line of LIMIT and OFFSET, by its price and the rows asked for
-  pub line-is : (w : Window) → q.window ≡ Some w → (n m : ℕ) → n ≡ price c q p.tree → m ≡ asked w p.rows → limit_text w n m ≡ window_line c q p.tree
-  line-is w is n m priced wanted = ap₂ (limit_text w) priced (wanted ∙ ap (asked w) rows-are) ∙ ap (λ (o : Option Window). line_by c q o p.tree) (sym is)
+  pub line-is : (w : Window) → q.window ≡ Some w → (n m : ℕ) → n ≡ price c q p.tree → m ≡ asked w p.rows → rows_limit_text w n m ≡ window_line c q p.tree
+  line-is w is n m priced wanted = ap₂ (rows_limit_text w) priced (wanted ∙ ap (asked w) rows-are) ∙ ap (λ (o : Option Window). line_by c q o p.tree) (sym is)

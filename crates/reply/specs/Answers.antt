@@ -7,10 +7,9 @@ use Rattle.sql_query.specs.Queries.{Query}
 use Rattle.sql_query.specs.Worlds.{World}
 use Rattle.sql_query.specs.Tuples.{Tuple, no_rows}
 use Rattle.sql_query.specs.Meaning.{IsOrdered, meaning, shown, windowed}
-use Rattle.plan_tree.specs.Least.{IsAdmissible, IsBestPlan}
+use Rattle.plan_tree.specs.Least.{IsBestPlan}
 use Rattle.plan_tree.specs.Plans.{Plan}
 use Rattle.plan_tree.specs.Run.{run}
-use Rattle.plan_tree.specs.Space.{IsFinished}
 use Rattle.explain.specs.Texts.{explained_text}
 
 -- all tuples of a plan, in the order in which it gives them
@@ -38,7 +37,3 @@ pub record IsAnswer (w : World) (q : Query) (p : Plan) (bytes : List ℕ) : Type
 pub record IsExplanation (c : Contents) (q : Query) (p : Plan) (bytes : List ℕ) : Type 0 where
   pub best : IsBestPlan c q p
   pub printed : bytes ≡ explained_text c q p
-
--- no plan of all relations in the order asked for is admissible
-abbrev pub HasNoPlan : Contents → Query → Type 0
-HasNoPlan c q = (p : Plan) → IsFinished c q p → ¬ IsAdmissible c q p

@@ -21,7 +21,6 @@ use Rattle.index_match.specs.Arms.{arm_parts, arms_of, is_matched, takes_parts}
 use Rattle.index_match.specs.Conditions.{is_condition}
 use Rattle.index_match.specs.Numbered.{Numbered, local, numbered}
 use Rattle.index_match.proofs.ArmLemmas.{parts_few}
-use Rattle.path_cost.specs.Estimates.{is_local}
 use Rattle.sql_query.specs.Queries.{Query}
 use Rattle.plan_tree.specs.Bitmaps.{ArePicked, none_left, picked, passed, AreElements, Element, HasArms, IsElement, MOST_ELEMENTS, MatchesArm, by_clause, by_index, candidates, condition_at, condition_by, element_of, is_or, table_of_relation}
 use Rattle.plan_tree.specs.Plans.{BitTree, leaf, all_hold, some_arm}
@@ -29,6 +28,7 @@ use Rattle.bitmap_scan.specs.Chosen.{IsLeastTree, marked}
 use Rattle.pg_base.proofs.ListLemmas.{sum-cons}
 use Rattle.plan_check.specs.Plains.{arms_in}
 use Rattle.scan_cover.specs.Limits.{HasFewAtoms, arms_of_all, or_atoms}
+use Rattle.eq_classes.specs.Parts.{is_local}
 
 -- sums over a part of a list are no greater
 sum-both : (b : Bool) (n : ℕ) (us vs : List ℕ) → sum us ≤ sum vs → sum (cond b (n ∷ us) us) ≤ sum (n ∷ vs)

@@ -12,7 +12,7 @@ use Rattle.pg_base.specs.declared.numbers.RelNo.{RelNo}
 use Rattle.pg_base.specs.declared.numbers.Tid.{Tid}
 use Rattle.pg_base.specs.declared.rel_set.RelSet.{RelSet}
 use Rattle.pg_value.specs.declared.columns.Column.{Column}
-use Rattle.opfamily.specs.KeyOrder.{Entry}
+use Rattle.opfamily.specs.KeyOrder.{IndexEntry}
 use Rattle.pg_expr.specs.declared.operand.ColRef.{ColRef}
 use Rattle.pg_expr.specs.Columns.{each_column}
 use Rattle.pg_value.specs.declared.operators.Truth.TheVariants.{True}
@@ -34,7 +34,6 @@ use Rattle.btree_index.specs.Tree.{in_direction}
 use Rattle.index_match.specs.Bounds.{index_bounds}
 use Rattle.index_match.specs.Conditions.{index_conditions, is_condition}
 use Rattle.index_match.specs.Numbered.{Numbered, base, conditions_of, local, numbered}
-use Rattle.index_match.specs.Slots.{is_local}
 use Rattle.index_match.specs.Usable.{holds_columns}
 use Rattle.sql_query.specs.Meaning.{all_true}
 use Rattle.sql_query.specs.Queries.{Query, width}
@@ -43,7 +42,7 @@ use Rattle.sql_query.specs.WellBound.{given_with}
 use Rattle.sql_query.specs.Worlds.{World, world}
 use Rattle.plan_tree.specs.Bitmaps.{IsIndexOn}
 use Rattle.plan_tree.specs.Entries.{entries}
-use Rattle.plan_tree.specs.Run.{clauses_at, conditions, in_scan_direction}
+use Rattle.plan_tree.specs.Run.{clauses_at, index_scan_conditions, in_scan_direction}
 use Rattle.store.specs.Kept.{Kept}
 use Rattle.scan_probes.specs.Scenes.{AreReadyAtRow}
 use Rattle.scan_probes.specs.Values.{Given, key_columns}
@@ -56,6 +55,7 @@ use Rattle.scan_exec.proofs.MovedLemmas.{moved_index}
 use Rattle.scan_exec.proofs.NearLemmas.{base_near, clauses_near, in_allowed, of_clause, ready_at, true_at, used}
 use Rattle.scan_exec.proofs.SeekLemmas.{at_entries, filter_in_same, lawful}
 use Rattle.pg_base.proofs.ListLemmas.{filter-map-is as filter_of_map}
+use Rattle.eq_classes.specs.Parts.{is_local}
 
 pub map_in_same : {A B : Type 0} (f g : A → B) (xs : List A) → ((x : A) → IsIn x xs → f x ≡ g x) → map f xs ≡ map g xs
 map_in_same f g [] h = refl
@@ -77,12 +77,12 @@ in_reverse x (y ∷ ys) i =
     ⊎_elim (λ (h : IsIn x (reverse ys)). inr (in_reverse x ys h)) (λ (h : IsIn x (y ∷ [])). in_left x (y ∷ []) ys h)
     (in_parts x (reverse ys) (y ∷ []) (subst (IsIn x) (reverse-append (y ∷ []) ys) i))
 
-pub in_directed : (b : Bool) (e : Entry) (es : List Entry) → IsIn e (in_direction b es) → IsIn e es
+pub in_directed : (b : Bool) (e : IndexEntry) (es : List IndexEntry) → IsIn e (in_direction b es) → IsIn e es
 in_directed true e es i = in_reverse e es i
 in_directed false e es i = i
 
-pub directed_rows : (w : World) (q : Query) (b : Bool) (es : List Entry) → in_scan_direction w q b (map (λ (e : Entry). e.row) es) ≡ map (λ (e : Entry). e.row) (in_direction b es)
-directed_rows w q true es = reverse_of_map (λ (e : Entry). e.row) es
+pub directed_rows : (w : World) (q : Query) (b : Bool) (es : List IndexEntry) → in_scan_direction w q b (map (λ (e : IndexEntry). e.row) es) ≡ map (λ (e : IndexEntry). e.row) (in_direction b es)
+directed_rows w q true es = reverse_of_map (λ (e : IndexEntry). e.row) es
 directed_rows w q false es = refl
 
 -- the conditions of an index are those of their clauses' numbers
@@ -143,23 +143,23 @@ module _ (c : Contents) (k : Kept) (q : Query) (r : RelNo) (p : RelSet) (outer :
     d = index_at c i
 
     abbrev es : List Cond
-    es = conditions w q r i p
+    es = index_scan_conditions w q r i p
 
-    abbrev passes : Entry → Bool
+    abbrev passes : IndexEntry → Bool
     passes e = all_true w q (beside q r.0 e.row o) (limits d r.0 es)
 
     -- the part of an index that a scan comes to
-    abbrev part : Bool → List Entry
+    abbrev part : Bool → List IndexEntry
     part b = in_direction b (filter passes (entries w i))
 
-    in_part : (b : Bool) (e : Entry) → IsIn e (part b) → IsEntryAt d rows e
+    in_part : (b : Bool) (e : IndexEntry) → IsIn e (part b) → IsEntryAt d rows e
     in_part b e j = at_entries c k q r p outer given at i on e (in_filter passes (entries w i) e (in_directed b e (filter passes (entries w i)) j)).0
 
-    bounded_are : (b : Bool) → in_scan_direction w q b (bounded w q r i p o) ≡ map (λ (e : Entry). e.row) (part b)
+    bounded_are : (b : Bool) → in_scan_direction w q b (bounded w q r i p o) ≡ map (λ (e : IndexEntry). e.row) (part b)
     bounded_are b =
         ap (in_scan_direction w q b)
-        (filter_of_map (λ (n : ℕ). all_true w q (beside q r.0 n o) (conditions_of (index_bounds c q.classes i r.0 (has p.0)))) (λ (e : Entry). e.row) (entries w i)
-        ∙ ap (map (λ (e : Entry). e.row)) (filter_in_same (λ (e : Entry). all_true w q (beside q r.0 e.row o) (conditions_of (index_bounds c q.classes i r.0 (has p.0)))) passes (entries w i)
+        (filter_of_map (λ (n : ℕ). all_true w q (beside q r.0 n o) (conditions_of (index_bounds c q.classes i r.0 (has p.0)))) (λ (e : IndexEntry). e.row) (entries w i)
+        ∙ ap (map (λ (e : IndexEntry). e.row)) (filter_in_same (λ (e : IndexEntry). all_true w q (beside q r.0 e.row o) (conditions_of (index_bounds c q.classes i r.0 (has p.0)))) passes (entries w i)
         (λ e j. sym (limits_are _ (λ n. (clause_at q.classes.clauses n).cond) d r.0 (index_conditions c q.classes i r.0 (has p.0)) (by_number c q r p i)))))
         ∙ directed_rows w q b (filter passes (entries w i))
 
@@ -170,7 +170,7 @@ module _ (c : Contents) (k : Kept) (q : Query) (r : RelNo) (p : RelSet) (outer :
     columns = (table_at c (relation_at q.range r).0).columns
 
     -- a scan of it
-    entry_is : (e : Entry) → IsEntryAt d rows e → entry_at r.0 given es (clauses_at w q r p) d rows e ≡ entry_row w q r i false p o e.row
+    entry_is : (e : IndexEntry) → IsEntryAt d rows e → entry_at r.0 given es (clauses_at w q r p) d rows e ≡ entry_row w q r i false p o e.row
     entry_is e here =
         ap₂ (λ (a b : Bool). record { row = e.row; looked = true; fetched = a; given = a && b })
         (true_entry c k q r p outer given at d columns (lawful c k q r p outer given at i on contents) e here es use_held)
@@ -188,11 +188,11 @@ module _ (c : Contents) (k : Kept) (q : Query) (r : RelNo) (p : RelSet) (outer :
     pub index_are : (b : Bool) → map (entry_at r.0 given es (clauses_at w q r p) d rows) (part b) ≡ map (entry_row w q r i false p o) (in_scan_direction w q b (bounded w q r i p o))
     index_are b =
         map_in_same (entry_at r.0 given es (clauses_at w q r p) d rows) (λ e. entry_row w q r i false p o e.row) (part b) (λ e j. entry_is e (in_part b e j))
-        ∙ sym (map-map (entry_row w q r i false p o) (λ (e : Entry). e.row) (part b))
+        ∙ sym (map-map (entry_row w q r i false p o) (λ (e : IndexEntry). e.row) (part b))
         ∙ ap (map (entry_row w q r i false p o)) (sym (bounded_are b))
 
     -- as a call was handed it
-    module _ (c' : Contents) (s' : Range) (r' : RelNo) (cls' : List Cond) (rows' : List Values) (ts' : List Cond) (d' : Index) (ce : c' ≡ c) (se : s' ≡ q.range) (re : r' ≡ r) (ee : cls' ≡ clauses_at w q r p) (we : rows' ≡ rows) (te : ts' ≡ es) (de : d' ≡ d) (b : Bool) (cursor : List Entry) (ie : cursor ≡ part b) where
+    module _ (c' : Contents) (s' : Range) (r' : RelNo) (cls' : List Cond) (rows' : List Values) (ts' : List Cond) (d' : Index) (ce : c' ≡ c) (se : s' ≡ q.range) (re : r' ≡ r) (ee : cls' ≡ clauses_at w q r p) (we : rows' ≡ rows) (te : ts' ≡ es) (de : d' ≡ d) (b : Bool) (cursor : List IndexEntry) (ie : cursor ≡ part b) where
       pub index_begins : All (IsReadyEntry c' s' r'.0 given ts' cls' d' rows') cursor
       index_begins =
           subst (All (IsReadyEntry c' s' r'.0 given ts' cls' d' rows')) (sym ie)
@@ -233,7 +233,7 @@ module _ (c : Contents) (k : Kept) (q : Query) (r : RelNo) (p : RelSet) (outer :
             held = subst (λ (x : Cond). each_column (holds_own d r.0) x ≡ true) (sym of.is) (clause_held of.clause of.listed);
           }
 
-      cover_is : (e : Entry) → IsEntryAt d rows e → covered_at r.0 given es (clauses_at w q r p) d e ≡ entry_row w q r i true p o e.row
+      cover_is : (e : IndexEntry) → IsEntryAt d rows e → covered_at r.0 given es (clauses_at w q r p) d e ≡ entry_row w q r i true p o e.row
       cover_is e here =
           ap₂ (λ (a b : Bool). record { row = e.row; looked = true; fetched = false; given = a && b })
           (true_entry c k q r p outer given at d columns (lawful c k q r p outer given at i on contents) e here es use_held)
@@ -250,10 +250,10 @@ module _ (c : Contents) (k : Kept) (q : Query) (r : RelNo) (p : RelSet) (outer :
       pub only_are : (b : Bool) → map (covered_at r.0 given es (clauses_at w q r p) d) (part b) ≡ map (entry_row w q r i true p o) (in_scan_direction w q b (bounded w q r i p o))
       only_are b =
           map_in_same (covered_at r.0 given es (clauses_at w q r p) d) (λ e. entry_row w q r i true p o e.row) (part b) (λ e j. cover_is e (in_part b e j))
-          ∙ sym (map-map (entry_row w q r i true p o) (λ (e : Entry). e.row) (part b))
+          ∙ sym (map-map (entry_row w q r i true p o) (λ (e : IndexEntry). e.row) (part b))
           ∙ ap (map (entry_row w q r i true p o)) (sym (bounded_are b))
 
-      module _ (c' : Contents) (s' : Range) (r' : RelNo) (cls' ts' : List Cond) (d' : Index) (ce : c' ≡ c) (se : s' ≡ q.range) (re : r' ≡ r) (ee : cls' ≡ clauses_at w q r p) (te : ts' ≡ es) (de : d' ≡ d) (b : Bool) (cursor : List Entry) (ie : cursor ≡ part b) where
+      module _ (c' : Contents) (s' : Range) (r' : RelNo) (cls' ts' : List Cond) (d' : Index) (ce : c' ≡ c) (se : s' ≡ q.range) (re : r' ≡ r) (ee : cls' ≡ clauses_at w q r p) (te : ts' ≡ es) (de : d' ≡ d) (b : Bool) (cursor : List IndexEntry) (ie : cursor ≡ part b) where
         pub only_begins : All (IsReadyCover c' s' r'.0 given ts' cls' d') cursor
         only_begins =
             subst (All (IsReadyCover c' s' r'.0 given ts' cls' d')) (sym ie)

@@ -3,9 +3,8 @@ use Rattle.std.proofs.Common.{◌≡◌, ◌+◌, ℕ, Bool, true, false, ◌&&�
 use Rattle.std.proofs.lemmas.Bool.{lt-ltb}
 use Rattle.eq_classes.specs.Clauses.{Clause, Set, ClassTable}
 use Rattle.eq_classes.specs.Listing.{clause_at}
-use Rattle.eq_classes.specs.Parts.{is_base, is_param}
+use Rattle.eq_classes.specs.Parts.{is_base, is_param, is_local}
 use Rattle.index_match.specs.Numbered.{conditions_of, local, those}
-use Rattle.index_match.specs.Slots.{is_local}
 use Rattle.index_match.proofs.PartLemmas.{clauses_by_number}
 use Rattle.path_cost.specs.Estimates.{conditions_from}
 use Rattle.path_cost.proofs.KeptLemmas.{where-from}

@@ -11,7 +11,7 @@ use Rattle.opfamily.specs.declared.classes.Method.{Method}
 use Rattle.opfamily.specs.declared.classes.Method.TheVariants.{Btree, Hash}
 use Rattle.pg_expr.specs.Cond.{Cond}
 use Rattle.catalog.specs.Contents.{index_at}
-use Rattle.index_match.specs.Numbered.{Numbered, base, conditions_of, is_among}
+use Rattle.index_match.specs.Numbered.{Numbered, base, conditions_of, is_one_of_chosen}
 use Rattle.index_match.specs.Conditions.{index_conditions, is_hash}
 use Rattle.index_match.specs.Bounds.{bounding, index_bounds}
 use Rattle.sql_query.specs.Queries.{Query}
@@ -21,7 +21,7 @@ use Rattle.sql_query.specs.Meaning.{all_true}
 use Rattle.plan_tree.specs.Counts.{entries_met, fetches, given_looks, index_looks, looks}
 use Rattle.plan_tree.specs.Entries.{entry_rows}
 use Rattle.plan_tree.specs.Plans.{Plan, seq, index, index_only, bitmap, sort, nest, merge}
-use Rattle.plan_tree.specs.Run.{at_which, clauses_at, conditions, in_scan_direction, held, met, run}
+use Rattle.plan_tree.specs.Run.{at_which, clauses_at, index_scan_conditions, in_scan_direction, held, met, run}
 use Rattle.plan_tree.specs.Space.{IsBuilt}
 use Rattle.scan_exec.specs.Coming.{Coming, looks_allowed, bounded, coming, entry_row, fetched_row, index_coming, rows_to_come, owed}
 use Rattle.scan_exec.specs.Plans.{IsScan, param_set, relation_of}
@@ -120,7 +120,7 @@ module _ (w : World) (q : Query) where
 
   module _ (r : RelNo) (i : IndexNo) (only : Bool) (p : RelSet) (o : Tuple) where
     abbrev meet : ℕ → Bool
-    meet n = all_true w q (beside q r.0 n o) (conditions w q r i p)
+    meet n = all_true w q (beside q r.0 n o) (index_scan_conditions w q r i p)
 
     abbrev hold : ℕ → Bool
     hold n = all_true w q (beside q r.0 n o) (clauses_at w q r p)
@@ -130,7 +130,7 @@ module _ (w : World) (q : Query) where
 
     met_of : filter meet (bounded w q r i p o) ≡ met w q r i p o
     met_of = filter_within meet limit
-        (λ n h. part_true _ (is_among (bounding (index_at w.contents i).method r.0 (index_at w.contents i).keys (index_conditions w.contents q.classes i r.0 (has p.0)))) (index_conditions w.contents q.classes i r.0 (has p.0)) h)
+        (λ n h. part_true _ (is_one_of_chosen (bounding (index_at w.contents i).method r.0 (index_at w.contents i).keys (index_conditions w.contents q.classes i r.0 (has p.0)))) (index_conditions w.contents q.classes i r.0 (has p.0)) h)
         (entry_rows w i)
 
     entry_left : (b : Bool) → rows_to_come (map (entry_row w q r i only p o) (in_scan_direction w q b (bounded w q r i p o))) ≡ at_which w q r o (clauses_at w q r p) (in_scan_direction w q b (met w q r i p o))

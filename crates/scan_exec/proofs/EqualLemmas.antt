@@ -19,7 +19,7 @@ use Rattle.pg_value.specs.declared.value.Value.{Value}
 use Rattle.pg_value.specs.Order.{IsOfFamily}
 use Rattle.pg_value.specs.Truths.{is_true, truth_of_op}
 use Rattle.opfamily.specs.Answers.{accepted}
-use Rattle.opfamily.specs.KeyOrder.{Entry, first_value, key_family}
+use Rattle.opfamily.specs.KeyOrder.{IndexEntry, first_value, key_family}
 use Rattle.opfamily.specs.declared.classes.IndexKey.{IndexKey}
 use Rattle.opfamily.specs.declared.classes.Method.{Method}
 use Rattle.opfamily.specs.declared.classes.Method.TheVariants.{Btree, Hash}
@@ -47,7 +47,7 @@ use Rattle.sql_query.specs.Tuples.{Tuple, beside, rows_of_relation}
 use Rattle.sql_query.specs.Worlds.{Holds, World, stored_at, world}
 use Rattle.plan_tree.specs.Bitmaps.{IsIndexOn}
 use Rattle.plan_tree.specs.Entries.{cell, entries, entries_over, entry_rows}
-use Rattle.plan_tree.specs.Run.{at_which, clauses_at, conditions, met}
+use Rattle.plan_tree.specs.Run.{at_which, clauses_at, index_scan_conditions, met}
 use Rattle.plan_tree.specs.Space.{may_go}
 use Rattle.store.specs.Kept.{Kept, built_by, built_of, first_key, hashed, held_of, hash_table}
 use Rattle.store.proofs.FitLemmas.{key-fits, key-hashes}
@@ -119,11 +119,11 @@ only_of es (v ∷ u ∷ vs) x are first some few =
     absurd (omega (arith, e, few, long))
 
 pub hash_condition : (w : World) (q : Query) (r : RelNo) (i : IndexNo) (p : RelSet) → (index_at w.contents i).method ≡ Hash → nat_lt 0 (length (index_conditions w.contents q.classes i r.0 (has p.0))) ≡ true
-    → (vs : List (Bor Expr)) (x : Bor Expr) → refs.lent_conditions vs ≡ conditions w q r i p → x ≡ get_or vs 0 x → conditions w q r i p ≡ view.cond x.now ∷ []
+    → (vs : List (Bor Expr)) (x : Bor Expr) → refs.lent_conditions vs ≡ index_scan_conditions w q r i p → x ≡ get_or vs 0 x → index_scan_conditions w q r i p ≡ view.cond x.now ∷ []
 hash_condition w q r i p hash some vs x are first =
     let long = length-map (index_conditions w.contents q.classes i r.0 (has p.0)) (λ (y : Numbered). y.cond) in
     let lt = ltb-true 0 (length (index_conditions w.contents q.classes i r.0 (has p.0))) some in
-    only_of (conditions w q r i p) vs x are first (omega (arith, long, lt))
+    only_of (index_scan_conditions w q r i p) vs x are first (omega (arith, long, lt))
     (one_at_most (index_at w.contents i).method hash (filter (λ (y : Numbered). is_condition (index_at w.contents i) r.0 y.cond) (local q.classes r.0 (has p.0))))
 
 pub first_in : (e : Cond) (es : List Cond) → es ≡ e ∷ [] → IsIn e es
@@ -138,7 +138,7 @@ module _ (c : Contents) (k : Kept) (q : Query) (r : RelNo) (p : RelSet) (outer :
   -- the rows of entries are those of the relation
   pub met_within : (es : List Cond) (n : ℕ) → IsIn n (at_which (world c k.stored) q r (padded (width q) (has p.0) outer) es (entry_rows (world c k.stored) i)) → n < length (rows_of_relation (world c k.stored) q r)
   met_within es n j =
-      let m = in_map (λ (x : Entry). x.row) (entries (world c k.stored) i) n (in_filter (λ (y : ℕ). all_true (world c k.stored) q (beside q r.0 y (padded (width q) (has p.0) outer)) es) (entry_rows (world c k.stored) i) n j).0 in
+      let m = in_map (λ (x : IndexEntry). x.row) (entries (world c k.stored) i) n (in_filter (λ (y : ℕ). all_true (world c k.stored) q (beside q r.0 y (padded (width q) (has p.0) outer)) es) (entry_rows (world c k.stored) i) n j).0 in
       let is = (at_entries c k q r p outer given at i on m.0 m.1).within in
       let e : n ≡ (m.0).row = m.2 in
       omega (arith, is, e)
@@ -153,7 +153,7 @@ module _ (c : Contents) (k : Kept) (q : Query) (r : RelNo) (p : RelSet) (outer :
         moved (λ a l e f h. All (IsReadyNumber a l e.0 given f h) ns) c c' q.range s' r r' (clauses_at (world c k.stored) q r p) cls' (rows_of_relation (world c k.stored) q r) rows' ce se re ee we
         (clauses_ready c k q r p outer given at ns within_rows)
 
-    pub hash_begun : conditions (world c k.stored) q r i p ≡ es → rows_of r'.0 given cls' rows' ns ≡ map (fetched_row (world c k.stored) q r (padded (width q) (has p.0) outer) (clauses_at (world c k.stored) q r p)) (met (world c k.stored) q r i p (padded (width q) (has p.0) outer))
+    pub hash_begun : index_scan_conditions (world c k.stored) q r i p ≡ es → rows_of r'.0 given cls' rows' ns ≡ map (fetched_row (world c k.stored) q r (padded (width q) (has p.0) outer) (clauses_at (world c k.stored) q r p)) (met (world c k.stored) q r i p (padded (width q) (has p.0) outer))
     hash_begun is =
         moved (λ a l e f h. rows_of e.0 given f h ns ≡ map (fetched_row (world c k.stored) q r (padded (width q) (has p.0) outer) (clauses_at (world c k.stored) q r p)) ns) c c' q.range s' r r' (clauses_at (world c k.stored) q r p) cls' (rows_of_relation (world c k.stored) q r) rows' ce se re ee we
         (fetched_are c k q r p outer given at (clauses_at (world c k.stored) q r p) (clauses_near c k q r p outer given at) ns within_rows)
@@ -233,14 +233,14 @@ module _ (c : Contents) (k : Kept) (q : Query) (r : RelNo) (p : RelSet) (outer :
         fits_key r.0 key given (type_in c q.range) e (key_fits key Hash (type_in c q.range (column_of r.0 key.col)) accepts) form_first
         (defined_at (λ x. some_value (type_in c q.range (column_of r.0 x))) (λ x. some_fits (type_in c q.range (column_of r.0 x))))
 
-    abbrev es : List Entry
+    abbrev es : List IndexEntry
     es = entries_over d rows
 
-    here : (x : Entry) → IsIn x es → IsEntryAt d rows x
+    here : (x : IndexEntry) → IsIn x es → IsEntryAt d rows x
     here x j = at_entries c k q r p outer given at i on x (subst (IsIn x) (sym (entries_are c k q r p outer given at i on)) j)
 
-    value_of_entry : (x : Entry) → IsEntryAt d rows x → first_value x.keys ≡ value_in (slice_index_or rows x.row []) key.col
-    value_of_entry x is = ap (λ (y : Entry). first_value y.keys) is.is ∙ first_read (slice_index_or rows x.row []) d.keys one_key
+    value_of_entry : (x : IndexEntry) → IsEntryAt d rows x → first_value x.keys ≡ value_in (slice_index_or rows x.row []) key.col
+    value_of_entry x is = ap (λ (y : IndexEntry). first_value y.keys) is.is ∙ first_read (slice_index_or rows x.row []) d.keys one_key
 
     row_lawful : (n : ℕ) → n < length rows → IsRowOf columns (slice_index_or rows n [])
     row_lawful n lt =
@@ -255,7 +255,7 @@ module _ (c : Contents) (k : Kept) (q : Query) (r : RelNo) (p : RelSet) (outer :
         subst (IsOfFamily (key_family key)) (sym (ap (λ (y : Held). y.value) m.2 ∙ value_of_entry m.0 is))
         (key-fits columns d.method key (slice_index_or rows (m.0).row []) of_key (row_lawful (m.0).row is.within))
 
-    equal_at : (x : Entry) → IsEntryAt d rows x → is_true (truth_of_op Eq (held_of x).value value) ≡ all_true w q (beside q r.0 x.row o) (e ∷ [])
+    equal_at : (x : IndexEntry) → IsEntryAt d rows x → is_true (truth_of_op Eq (held_of x).value value) ≡ all_true w q (beside q r.0 x.row o) (e ∷ [])
     equal_at x is =
         let own = value_in (slice_index_or rows x.row []) in
         equals_true r.0 key given own (first_value x.keys) (value_of_entry x is) e form_first (defined_at own (own_fits c k q r p outer given at x.row))
@@ -266,10 +266,10 @@ module _ (c : Contents) (k : Kept) (q : Query) (r : RelNo) (p : RelSet) (outer :
     rows_are =
         equal_rows key (key-hashes (type_in c q.range (column_of r.0 key.col)) key accepts) value value_fits (map held_of es) (entries_rise d rows hash) all_fit
         ∙ ap (map (λ (h : Held). h.row)) (filter_of_map (λ (h : Held). is_true (truth_of_op Eq h.value value)) held_of es)
-        ∙ map-map (λ (h : Held). h.row) held_of (filter (λ (x : Entry). is_true (truth_of_op Eq (held_of x).value value)) es)
-        ∙ ap (map (λ (x : Entry). x.row)) (filter_in_same (λ (x : Entry). is_true (truth_of_op Eq (held_of x).value value)) (λ (x : Entry). all_true w q (beside q r.0 x.row o) (e ∷ [])) es (λ x j. equal_at x (here x j)))
-        ∙ sym (filter_of_map (λ (n : ℕ). all_true w q (beside q r.0 n o) (e ∷ [])) (λ (x : Entry). x.row) es)
-        ∙ ap (λ (l : List Entry). at_which w q r o (e ∷ []) (map (λ (x : Entry). x.row) l)) (sym (entries_are c k q r p outer given at i on))
+        ∙ map-map (λ (h : Held). h.row) held_of (filter (λ (x : IndexEntry). is_true (truth_of_op Eq (held_of x).value value)) es)
+        ∙ ap (map (λ (x : IndexEntry). x.row)) (filter_in_same (λ (x : IndexEntry). is_true (truth_of_op Eq (held_of x).value value)) (λ (x : IndexEntry). all_true w q (beside q r.0 x.row o) (e ∷ [])) es (λ x j. equal_at x (here x j)))
+        ∙ sym (filter_of_map (λ (n : ℕ). all_true w q (beside q r.0 n o) (e ∷ [])) (λ (x : IndexEntry). x.row) es)
+        ∙ ap (λ (l : List IndexEntry). at_which w q r o (e ∷ []) (map (λ (x : IndexEntry). x.row) l)) (sym (entries_are c k q r p outer given at i on))
 
     -- in what a call was handed
     pub value_fits_table : (t : HashTable) → hashed t ≡ built_of d rows → (v : Value) (x : IndexKey) → x ≡ key → v ≡ compared_with r.0 x given e → IsOfFamily (key_family t.key) v

@@ -17,7 +17,7 @@ use Rattle.pg_value.specs.Sorting.{IsInOrder, in_order}
 use Rattle.pg_value.specs.Truths.{is_true, truth_of_op}
 use Rattle.pg_value.proofs.SortingLemmas.{in_order_fixed}
 use Rattle.opfamily.specs.Answers.{number_in, op_place}
-use Rattle.opfamily.specs.KeyOrder.{Entry, key_family, key_order}
+use Rattle.opfamily.specs.KeyOrder.{IndexEntry, key_family, key_order}
 use Rattle.opfamily.specs.declared.classes.IndexKey.{IndexKey}
 use Rattle.opfamily.specs.declared.classes.Method.{Method}
 use Rattle.opfamily.specs.declared.classes.Method.TheVariants.{Btree, Hash}
@@ -183,10 +183,10 @@ pub entries_rise : (d : Index) (rows : List Values) → d.method ≡ Hash → (x
 entries_rise d rows is x y b =
     let listed = filter (λ n. meets_predicate d.predicate (slice_index_or rows n [])) (range_with_len 0 (length rows)) in
     let plain : entries_over d rows ≡ map (entry d rows) listed = ap (λ (m : Method). ordered m d.keys (map (entry d rows) listed)) is in
-    let one = before_map held_of (map (entry d rows) listed) x y (subst (λ (l : List Entry). Before x y (map held_of l)) plain b) in
+    let one = before_map held_of (map (entry d rows) listed) x y (subst (λ (l : List IndexEntry). Before x y (map held_of l)) plain b) in
     let two = before_map (entry d rows) listed one.0 one.1 one.2 in
     let numbers = before_range 0 (length rows) two.0 two.1 (before_filter (λ n. meets_predicate d.predicate (slice_index_or rows n [])) (range_with_len 0 (length rows)) two.0 two.1 two.2) in
     let lt = numbers.1 in
-    let left : x.row ≡ two.0 = ap (λ (h : Held). h.row) one.3 ∙ ap (λ (e : Entry). e.row) two.3 in
-    let right : y.row ≡ two.1 = ap (λ (h : Held). h.row) one.4 ∙ ap (λ (e : Entry). e.row) two.4 in
+    let left : x.row ≡ two.0 = ap (λ (h : Held). h.row) one.3 ∙ ap (λ (e : IndexEntry). e.row) two.3 in
+    let right : y.row ≡ two.1 = ap (λ (h : Held). h.row) one.4 ∙ ap (λ (e : IndexEntry). e.row) two.4 in
     omega (arith, left, right, lt)

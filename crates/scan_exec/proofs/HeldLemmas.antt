@@ -10,7 +10,7 @@ use Rattle.pg_base.specs.declared.numbers.IndexNo.{IndexNo}
 use Rattle.pg_base.specs.declared.numbers.RelNo.{RelNo}
 use Rattle.pg_base.specs.declared.numbers.Tid.{Tid}
 use Rattle.pg_base.specs.declared.rel_set.RelSet.{RelSet}
-use Rattle.opfamily.specs.KeyOrder.{Entry}
+use Rattle.opfamily.specs.KeyOrder.{IndexEntry}
 use Rattle.opfamily.specs.declared.classes.Method.{Method}
 use Rattle.opfamily.specs.declared.classes.Method.TheVariants.{Btree, Hash}
 use Rattle.pg_expr.specs.Cond.{Cond}
@@ -103,22 +103,22 @@ module _ (tids : List Tid) (i : ℕ) (lt : i < length tids) (t : Tid) (old now n
   below_on bound h = (subst (AllByRecursion (λ (x : Tid). x.0 < bound)) (drop_more tids i t lt) h).1
 
 -- the entries of a cursor, of which some are put in
-pub record IsMarkingBy (c : Contents) (range : Range) (r : ℕ) (given : Given) (es : List Cond) (d : Index) (old now : TidSet) (all left : List Entry) (before after : ℕ) : Type 0 where
-  pub marking : IsMarking old now (map (λ (e : Entry). e.row) (filter (passes_entry r given es d) all)) (map (λ (e : Entry). e.row) (filter (passes_entry r given es d) left))
+pub record IsMarkingBy (c : Contents) (range : Range) (r : ℕ) (given : Given) (es : List Cond) (d : Index) (old now : TidSet) (all left : List IndexEntry) (before after : ℕ) : Type 0 where
+  pub marking : IsMarking old now (map (λ (e : IndexEntry). e.row) (filter (passes_entry r given es d) all)) (map (λ (e : IndexEntry). e.row) (filter (passes_entry r given es d) left))
   pub ready : All (IsReadyMark c range r given es d old.bound) left
   pub looked : after + length left ≡ before + length all
 
 module _ (c : Contents) (range : Range) (r : ℕ) (given : Given) (es : List Cond) (d : Index) where
-  abbrev passes : Entry → Bool
+  abbrev passes : IndexEntry → Bool
   passes = passes_entry r given es d
 
-  abbrev rows_left : List Entry → List ℕ
-  rows_left l = map (λ (e : Entry). e.row) (filter passes l)
+  abbrev rows_left : List IndexEntry → List ℕ
+  rows_left l = map (λ (e : IndexEntry). e.row) (filter passes l)
 
-  pub entries_begin : (s : TidSet) (all : List Entry) (before : ℕ) → IsMade s → All (IsReadyMark c range r given es d s.bound) all → IsMarkingBy c range r given es d s s all all before before
+  pub entries_begin : (s : TidSet) (all : List IndexEntry) (before : ℕ) → IsMade s → All (IsReadyMark c range r given es d s.bound) all → IsMarkingBy c range r given es d s s all all before before
   entries_begin s all before made ready = record { marking = marking_begins s (rows_left all) made; ready = ready; looked = refl }
 
-  module _ (old now : TidSet) (all left rest : List Entry) (before after later : ℕ) (is : IsMarkingBy c range r given es d old now all left before after) (e : Entry) (split : left ≡ e ∷ rest) (step : later ≡ after + 1) where
+  module _ (old now : TidSet) (all left rest : List IndexEntry) (before after later : ℕ) (is : IsMarkingBy c range r given es d old now all left before after) (e : IndexEntry) (split : left ≡ e ∷ rest) (step : later ≡ after + 1) where
     ready_split : All (IsReadyMark c range r given es d old.bound) (e ∷ rest)
     ready_split = subst (All (IsReadyMark c range r given es d old.bound)) split is.ready
 
@@ -131,10 +131,10 @@ module _ (c : Contents) (range : Range) (r : ℕ) (given : Given) (es : List Con
     looked_on : later + length rest ≡ before + length all
     looked_on = let long : length left ≡ length rest + 1 = ap length split ∙ (omega arith) in let e = is.looked in omega (arith, long, e, step)
 
-    marking_split : (b : Bool) → passes e ≡ b → IsMarking old now (rows_left all) (map (λ (x : Entry). x.row) (cond b (e ∷ filter passes rest) (filter passes rest)))
+    marking_split : (b : Bool) → passes e ≡ b → IsMarking old now (rows_left all) (map (λ (x : IndexEntry). x.row) (cond b (e ∷ filter passes rest) (filter passes rest)))
     marking_split b is_b =
-        subst (λ (t : Bool). IsMarking old now (rows_left all) (map (λ (x : Entry). x.row) (cond t (e ∷ filter passes rest) (filter passes rest)))) is_b
-        (subst (λ (l : List Entry). IsMarking old now (rows_left all) (rows_left l)) split is.marking)
+        subst (λ (t : Bool). IsMarking old now (rows_left all) (map (λ (x : IndexEntry). x.row) (cond t (e ∷ filter passes rest) (filter passes rest)))) is_b
+        (subst (λ (l : List IndexEntry). IsMarking old now (rows_left all) (rows_left l)) split is.marking)
 
     -- an entry that fails, and one that passes
     pub entry_fails : passes e ≡ false → IsMarkingBy c range r given es d old now all rest before later
@@ -146,10 +146,10 @@ module _ (c : Contents) (range : Range) (r : ℕ) (given : Given) (es : List Con
     pub row_below : e.row < now.bound
     row_below = let lt = first_ready.within in let same = is.marking.bound in omega (arith, lt, same)
 
-  pub entries_end : (old now : TidSet) (all left : List Entry) (before after : ℕ) → IsMarkingBy c range r given es d old now all left before after → left ≡ [] → now ≡ with_rows old (rows_left all)
+  pub entries_end : (old now : TidSet) (all left : List IndexEntry) (before after : ℕ) → IsMarkingBy c range r given es d old now all left before after → left ≡ [] → now ≡ with_rows old (rows_left all)
   entries_end old now all left before after is none = marking_ends old now (rows_left all) (rows_left left) (ap rows_left none) is.marking
 
-  pub entries_looked : (old now : TidSet) (all left : List Entry) (before after later : ℕ) → IsMarkingBy c range r given es d old now all left before after → left ≡ [] → later ≡ after → later ≡ before + length all
+  pub entries_looked : (old now : TidSet) (all left : List IndexEntry) (before after later : ℕ) → IsMarkingBy c range r given es d old now all left before after → left ≡ [] → later ≡ after → later ≡ before + length all
   entries_looked old now all left before after later is none same = let long : length left ≡ 0 = ap length none in let e = is.looked in omega (arith, long, e, same)
 
 -- the rows that an index has for conditions, in its part and in all of it
@@ -172,22 +172,22 @@ all_from_each test [] h = refl
 all_from_each test (x ∷ es) h = and_from _ _ (h x (inl refl)) (all_from_each test es (λ e i. h e (inr i)))
 
 module _ (w : World) (q : Query) (r : RelNo) (o : Tuple) (i : IndexNo) (es : List Cond) where
-  abbrev meets_limits : Entry → Bool
+  abbrev meets_limits : IndexEntry → Bool
   meets_limits e = all_true w q (beside q r.0 e.row o) (limits (index_at w.contents i) r.0 es)
 
-  abbrev meets_all : Entry → Bool
+  abbrev meets_all : IndexEntry → Bool
   meets_all e = all_true w q (beside q r.0 e.row o) es
 
-  pub part_rows : (test : Entry → Bool) → ((e : Entry) → IsIn e (entries w i) → test e ≡ meets_all e) → map (λ (e : Entry). e.row) (filter test (filter meets_limits (entries w i))) ≡ at_which w q r o es (entry_rows w i)
+  pub part_rows : (test : IndexEntry → Bool) → ((e : IndexEntry) → IsIn e (entries w i) → test e ≡ meets_all e) → map (λ (e : IndexEntry). e.row) (filter test (filter meets_limits (entries w i))) ≡ at_which w q r o es (entry_rows w i)
   part_rows test agree =
-      ap (map (λ (e : Entry). e.row)) (filter_agree test meets_all (filter meets_limits (entries w i)) (λ e j. agree e (in_filter meets_limits (entries w i) e j).0)
+      ap (map (λ (e : IndexEntry). e.row)) (filter_agree test meets_all (filter meets_limits (entries w i)) (λ e j. agree e (in_filter meets_limits (entries w i) e j).0)
       ∙ filter_narrow meets_all meets_limits (λ e h. all_from_each _ (limits (index_at w.contents i) r.0 es) (λ x j. each_true _ es h x (in_limits (index_at w.contents i) r.0 es x j))) (entries w i))
-      ∙ sym (filter_of_map (λ (n : ℕ). all_true w q (beside q r.0 n o) es) (λ (e : Entry). e.row) (entries w i))
+      ∙ sym (filter_of_map (λ (n : ℕ). all_true w q (beside q r.0 n o) es) (λ (e : IndexEntry). e.row) (entries w i))
 
   pub part_looks : (m : Method) → m ≡ Btree → length (filter meets_limits (entries w i)) ≡ entries_met w q m r i o (limits (index_at w.contents i) r.0 es)
   part_looks m is =
-      sym (length-map (filter meets_limits (entries w i)) (λ (e : Entry). e.row))
-      ∙ ap length (sym (filter_of_map (λ (n : ℕ). all_true w q (beside q r.0 n o) (limits (index_at w.contents i) r.0 es)) (λ (e : Entry). e.row) (entries w i)))
+      sym (length-map (filter meets_limits (entries w i)) (λ (e : IndexEntry). e.row))
+      ∙ ap length (sym (filter_of_map (λ (n : ℕ). all_true w q (beside q r.0 n o) (limits (index_at w.contents i) r.0 es)) (λ (e : IndexEntry). e.row) (entries w i)))
       ∙ sym (ap (λ (x : Method). entries_met w q x r i o (limits (index_at w.contents i) r.0 es)) is)
 
 -- the bounds of an index's conditions, and of an arm's parts, by the conditions alone

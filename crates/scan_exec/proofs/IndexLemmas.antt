@@ -15,7 +15,7 @@ use Rattle.pg_value.specs.declared.columns.Column.{Column}
 use Rattle.pg_value.specs.declared.value.Value.{Value}
 use Rattle.pg_value.specs.declared.value.Value.TheVariants.{Null}
 use Rattle.pg_value.proofs.SortingLemmas.{All-in_order}
-use Rattle.opfamily.specs.KeyOrder.{Entry, entry_order}
+use Rattle.opfamily.specs.KeyOrder.{IndexEntry, entry_order}
 use Rattle.opfamily.specs.declared.classes.IndexKey.{IndexKey}
 use Rattle.opfamily.specs.declared.classes.Method.{Method}
 use Rattle.opfamily.specs.declared.classes.Method.TheVariants.{Btree, Hash}
@@ -48,7 +48,7 @@ use Rattle.scan_exec.specs.Scene.{IsNear, IsScene, IsUsed}
 use Rattle.scan_exec.proofs.NearLemmas.{all_recursive, over, testable_where}
 
 -- an entry of an index over some rows
-pub record IsEntryAt (d : Index) (rows : List Values) (e : Entry) : Type 0 where
+pub record IsEntryAt (d : Index) (rows : List Values) (e : IndexEntry) : Type 0 where
   pub within : e.row < length rows
   pub is : e ≡ entry d rows e.row
 
@@ -58,14 +58,14 @@ in_range a (suc m) n (inl same) = omega (arith, same)
 in_range a (suc m) n (inr i) = let later = in_range (a + 1) m n i in omega (arith, later)
 
 module _ (d : Index) (rows : List Values) where
-  one_entry : (e : Entry) → IsIn e (map (entry d rows) (filter (λ n. meets_predicate d.predicate (slice_index_or rows n [])) (range_with_len 0 (length rows)))) → IsEntryAt d rows e
+  one_entry : (e : IndexEntry) → IsIn e (map (entry d rows) (filter (λ n. meets_predicate d.predicate (slice_index_or rows n [])) (range_with_len 0 (length rows)))) → IsEntryAt d rows e
   one_entry e i =
       let x = in_map (entry d rows) (filter (λ n. meets_predicate d.predicate (slice_index_or rows n [])) (range_with_len 0 (length rows))) e i in
-      let number : e.row ≡ x.0 = ap (λ (y : Entry). y.row) x.2 in
+      let number : e.row ≡ x.0 = ap (λ (y : IndexEntry). y.row) x.2 in
       let lt = in_range 0 (length rows) x.0 (in_filter (λ n. meets_predicate d.predicate (slice_index_or rows n [])) (range_with_len 0 (length rows)) x.0 x.1).0 in
       record { within = omega (arith, number, lt); is = x.2 ∙ ap (entry d rows) (sym number) }
 
-  abbrev listed : List Entry
+  abbrev listed : List IndexEntry
   listed = map (entry d rows) (filter (λ n. meets_predicate d.predicate (slice_index_or rows n [])) (range_with_len 0 (length rows)))
 
   pub entries_at : All (IsEntryAt d rows) (entries_over d rows)
@@ -109,16 +109,16 @@ module _ (d : Index) (rows : List Values) where
       by false true h e = e
       by false false h e = absurd (true≢false (sym h))
 
-  module _ (e : Entry) (at : IsEntryAt d rows e) where
+  module _ (e : IndexEntry) (at : IsEntryAt d rows e) where
     pub own_is : (x : ColNo) → has_entry_value d e x ≡ true → value_in_entry d e x ≡ value_in (slice_index_or rows e.row []) x
     own_is x h =
-        ap (λ (y : Entry). value_in_entry d y x) at.is
+        ap (λ (y : IndexEntry). value_in_entry d y x) at.is
         ∙ value_at_entry e.row x (and_parts (is_held d x) _ h).0
 
     pub held_here : (columns : List Column) → IsLawfulIndex columns d → (x : ColNo) → is_held d x ≡ true → has_entry_value d e x ≡ true
     held_here columns lawful x held =
-        let keys : length e.keys ≡ length d.keys = ap (λ (y : Entry). length y.keys) at.is ∙ length-map d.keys (λ (k : IndexKey). cell (slice_index_or rows e.row []) k.col) in
-        let include : length e.include ≡ length d.include = ap (λ (y : Entry). length y.include) at.is ∙ length-map d.include (cell (slice_index_or rows e.row [])) in
+        let keys : length e.keys ≡ length d.keys = ap (λ (y : IndexEntry). length y.keys) at.is ∙ length-map d.keys (λ (k : IndexKey). cell (slice_index_or rows e.row []) k.col) in
+        let include : length e.include ≡ length d.include = ap (λ (y : IndexEntry). length y.include) at.is ∙ length-map d.include (cell (slice_index_or rows e.row [])) in
         let few = lawful.fits.few in
         and_from _ _ held (and_from _ _ (eq-eqb _ _ keys) (and_from _ _ (eq-eqb _ _ include) (lt-ltb _ _ (omega (arith, few)))))
 
@@ -187,7 +187,7 @@ module _ (c : Contents) (k : Kept) (q : Query) (r : RelNo) (p : RelSet) (outer :
   pub used_held : (i : IndexNo) (e : Cond) → IsUsed c q r.0 (has p.0) i e → IsHeldNear c q r.0 (has p.0) (index_at c i) e
   used_held i e is = record { near = is.near; held = condition_held (index_at c i) r.0 e is.form }
 
-  module _ (d : Index) (columns : List Column) (lawful : IsLawfulIndex columns d) (e : Entry) (is : IsEntryAt d (rows_of_relation w q r) e) (es : List Cond) (each : (x : Cond) → IsIn x es → IsHeldNear c q r.0 (has p.0) d x) where
+  module _ (d : Index) (columns : List Column) (lawful : IsLawfulIndex columns d) (e : IndexEntry) (is : IsEntryAt d (rows_of_relation w q r) e) (es : List Cond) (each : (x : Cond) → IsIn x es → IsHeldNear c q r.0 (has p.0) d x) where
     can_test : AllByRecursion (IsTestable c q.range r.0 (has_entry_value d e) g) es
     can_test =
         all_recursive (IsTestable c q.range r.0 (has_entry_value d e) g) es

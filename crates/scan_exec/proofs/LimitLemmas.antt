@@ -12,7 +12,7 @@ use Rattle.eq_classes.proofs.ListLemmas.{IsIn, any_at, any_from, filter_in, foun
 use Rattle.catalog.specs.Indexes.{Index}
 use Rattle.index_match.specs.Bounds.{bounding, bounds_among, is_fixing, on_key}
 use Rattle.index_match.specs.Conditions.{has_key_form}
-use Rattle.index_match.specs.Numbered.{Numbered, conditions_of, is_among, numbered, numbered_from_0}
+use Rattle.index_match.specs.Numbered.{Numbered, conditions_of, is_one_of_chosen, numbered, numbered_from_0}
 use Rattle.scan_probes.proofs.BoundsLemmas.{filter_of, find_of, in_conditions}
 use Rattle.scan_exec.specs.Scene.{limits}
 
@@ -73,15 +73,15 @@ all_of test (c ∷ cs) h = and_from _ _ (h c (inl refl)) (all_of test cs (λ x i
 
 -- a test that all bounds pass, as those of the list among them
 among_same : (test : Cond → Bool) (by : ℕ → Cond) (chosen cs : List Numbered) → ((x : Numbered) → IsIn x chosen → IsIn x cs) → AreByNumber by cs →
-    list_all test (conditions_of chosen) ≡ list_all test (conditions_of (filter (is_among chosen) cs))
+    list_all test (conditions_of chosen) ≡ list_all test (conditions_of (filter (is_one_of_chosen chosen) cs))
 among_same test by chosen cs within numbers = same_truth _ _
-    (λ h. all_of test (filter (is_among chosen) cs) (λ x i.
-    let in_it = in_filter (is_among chosen) cs x i in
+    (λ h. all_of test (filter (is_one_of_chosen chosen) cs) (λ x i.
+    let in_it = in_filter (is_one_of_chosen chosen) cs x i in
     let w = any_at (λ (c : Numbered). nat_eq x.number c.number) chosen in_it.1 in
     ap test (numbers x in_it.0 ∙ ap by (eqb-true x.number (w.0).number w.2) ∙ sym (numbers w.0 (within w.0 w.1))) ∙ all_in test chosen h w.0 w.1))
     (λ h. all_of test chosen (λ x i.
-    all_in test (filter (is_among chosen) cs) h x
-    (filter_in (is_among chosen) cs x (within x i) (any_from (λ (c : Numbered). nat_eq x.number c.number) chosen x i (eq-eqb x.number x.number refl)))))
+    all_in test (filter (is_one_of_chosen chosen) cs) h x
+    (filter_in (is_one_of_chosen chosen) cs x (within x i) (any_from (λ (c : Numbered). nat_eq x.number c.number) chosen x i (eq-eqb x.number x.number refl)))))
 
 pub limits_are : (test : Cond → Bool) (by : ℕ → Cond) (d : Index) (r : ℕ) (cs : List Numbered) → AreByNumber by cs →
     list_all test (limits d r (conditions_of cs)) ≡ list_all test (conditions_of (bounds_among d r cs))

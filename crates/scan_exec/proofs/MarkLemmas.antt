@@ -10,7 +10,7 @@ use Rattle.pg_base.specs.declared.numbers.IndexNo.{IndexNo}
 use Rattle.pg_base.specs.declared.numbers.RelNo.{RelNo}
 use Rattle.pg_base.specs.declared.numbers.Tid.{Tid}
 use Rattle.pg_base.specs.declared.rel_set.RelSet.{RelSet}
-use Rattle.opfamily.specs.KeyOrder.{Entry}
+use Rattle.opfamily.specs.KeyOrder.{IndexEntry}
 use Rattle.opfamily.specs.declared.classes.Method.{Method}
 use Rattle.opfamily.specs.declared.classes.Method.TheVariants.{Btree, Hash}
 use Rattle.pg_expr.specs.Cond.{Cond}
@@ -91,13 +91,13 @@ module _ (c : Contents) (k : Kept) (q : Query) (r : RelNo) (p : RelSet) (outer :
     abbrev d : Index
     d = index_at c i
 
-    abbrev passes : Entry → Bool
+    abbrev passes : IndexEntry → Bool
     passes e = all_true w q (beside q r.0 e.row o) (limits d r.0 es)
 
     each : (e : Cond) → IsIn e es → IsHeldNear c q r.0 (has p.0) d e
     each e j = used_held c k q r p outer given at i e (all_at (IsUsed c q r.0 (has p.0) i) es used e j)
 
-    here : (e : Entry) → IsIn e (entries w i) → IsEntryAt d rows e
+    here : (e : IndexEntry) → IsIn e (entries w i) → IsEntryAt d rows e
     here e j = at_entries c k q r p outer given at i on e j
 
     ready_marks : All (IsReadyMark c q.range r.0 given es d (length rows)) (filter passes (entries w i))
@@ -108,19 +108,19 @@ module _ (c : Contents) (k : Kept) (q : Query) (r : RelNo) (p : RelSet) (outer :
           entry = ready_entry c k q r p outer given at d (table_at c (relation_at q.range r).0).columns (lawful c k q r p outer given at i on contents) e is es each;
         })
 
-    module _ (c' : Contents) (s' : Range) (r' : RelNo) (d' : Index) (ce : c' ≡ c) (se : s' ≡ q.range) (re : r' ≡ r) (de : d' ≡ d) (cursor : List Entry) (ie : cursor ≡ in_direction false (filter passes (entries w i))) (s : TidSet) (be : s.bound ≡ length rows) where
+    module _ (c' : Contents) (s' : Range) (r' : RelNo) (d' : Index) (ce : c' ≡ c) (se : s' ≡ q.range) (re : r' ≡ r) (de : d' ≡ d) (cursor : List IndexEntry) (ie : cursor ≡ in_direction false (filter passes (entries w i))) (s : TidSet) (be : s.bound ≡ length rows) where
       pub marks_ready : All (IsReadyMark c' s' r'.0 given es d' s.bound) cursor
       marks_ready =
           subst (All (IsReadyMark c' s' r'.0 given es d' s.bound)) (sym ie)
           (subst (λ (n : ℕ). All (IsReadyMark c' s' r'.0 given es d' n) (filter passes (entries w i))) (sym be)
           (moved_index (λ a l e f h t y. All (IsReadyMark a l e.0 given es y (length rows)) (filter passes (entries w i))) c c' q.range s' r r' es es rows rows es es d d' ce se re refl refl refl de ready_marks))
 
-      pub marked : (new : TidSet) → new ≡ with_rows s (map (λ (e : Entry). e.row) (filter (passes_entry r'.0 given es d') cursor)) → new ≡ with_rows s (at_which w q r o es (entry_rows w i))
+      pub marked : (new : TidSet) → new ≡ with_rows s (map (λ (e : IndexEntry). e.row) (filter (passes_entry r'.0 given es d') cursor)) → new ≡ with_rows s (at_which w q r o es (entry_rows w i))
       marked new is =
           is
           ∙ ap (λ (l : List ℕ). with_rows s l)
-          (ap (λ (l : List Entry). map (λ (e : Entry). e.row) (filter (passes_entry r'.0 given es d') l)) ie
-          ∙ ap₂ (λ (x : RelNo) (y : Index). map (λ (e : Entry). e.row) (filter (passes_entry x.0 given es y) (filter passes (entries w i)))) re de
+          (ap (λ (l : List IndexEntry). map (λ (e : IndexEntry). e.row) (filter (passes_entry r'.0 given es d') l)) ie
+          ∙ ap₂ (λ (x : RelNo) (y : Index). map (λ (e : IndexEntry). e.row) (filter (passes_entry x.0 given es y) (filter passes (entries w i)))) re de
           ∙ part_rows w q r o i es (passes_entry r.0 given es d)
           (λ e j. true_entry c k q r p outer given at d (table_at c (relation_at q.range r).0).columns (lawful c k q r p outer given at i on contents) e (here e j) es each))
 

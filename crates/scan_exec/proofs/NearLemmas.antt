@@ -23,7 +23,7 @@ use Rattle.heap.proofs.PaddingLemmas.{padded-inside}
 use Rattle.catalog.specs.Contents.{Contents, index_at, table_at}
 use Rattle.catalog.specs.Range.{relation_at, table_of}
 use Rattle.eq_classes.specs.Clauses.{Clause, one}
-use Rattle.eq_classes.specs.Parts.{has_column, is_base, is_inside, is_param, union}
+use Rattle.eq_classes.specs.Parts.{has_column, is_base, is_inside, is_param, union, is_local}
 use Rattle.eq_classes.proofs.HoldLemmas.{in_map}
 use Rattle.eq_classes.proofs.InsideLemmas.{inside_more}
 use Rattle.eq_classes.proofs.ListLemmas.{IsIn, all_at, all_from, in_filter}
@@ -31,7 +31,6 @@ use Rattle.plan_laws.proofs.LocalLemmas.{param_reads}
 use Rattle.scan_probes.specs.plan_laws_OverLemmas.{clauses_over}
 use Rattle.index_match.specs.Conditions.{allowed, index_conditions, is_condition}
 use Rattle.index_match.specs.Numbered.{Numbered, base, conditions_of, local, those}
-use Rattle.index_match.specs.Slots.{is_local}
 use Rattle.index_match.proofs.PartLemmas.{clauses_by_number}
 use Rattle.path_cost.specs.Columns.{IsOver, is_column_in}
 use Rattle.sql_query.specs.Meaning.{all_true}
@@ -39,7 +38,7 @@ use Rattle.sql_query.specs.Queries.{Query, width}
 use Rattle.sql_query.specs.Tuples.{Tuple, beside, row_at, row_of, rows_of_relation}
 use Rattle.sql_query.specs.WellBound.{given_of}
 use Rattle.sql_query.specs.Worlds.{Holds, World, stored_at, world}
-use Rattle.plan_tree.specs.Run.{clauses_at, conditions}
+use Rattle.plan_tree.specs.Run.{clauses_at, index_scan_conditions}
 use Rattle.store.specs.Kept.{Kept}
 use Rattle.store.proofs.FitLemmas.{wide}
 use Rattle.store.proofs.StoreLemmas.{holds}
@@ -204,7 +203,7 @@ module _ (c : Contents) (k : Kept) (q : Query) (r : RelNo) (p : RelSet) (outer :
       subst Near (sym of.is) (clause_near of.clause of.listed (or_left (is_base r.0 of.clause) (is_param r.0 (has p.0) of.clause) of.passes))
 
   -- the conditions of an index
-  pub used : (i : IndexNo) (e : Cond) → IsIn e (conditions w q r i p) → IsUsed c q r.0 (has p.0) i e
+  pub used : (i : IndexNo) (e : Cond) → IsIn e (index_scan_conditions w q r i p) → IsUsed c q r.0 (has p.0) i e
   used i e h =
       let x = in_map (λ (y : Numbered). y.cond) (index_conditions c q.classes i r.0 (has p.0)) e h in
       let y = in_filter (λ (z : Numbered). is_condition (index_at c i) r.0 z.cond) (local q.classes r.0 (has p.0)) x.0 (in_allowed (index_at c i).method _ x.0 x.1) in
@@ -213,5 +212,5 @@ module _ (c : Contents) (k : Kept) (q : Query) (r : RelNo) (p : RelSet) (outer :
         form = ap (is_condition (index_at c i) r.0) x.2 ∙ y.1;
       }
 
-  pub all_used : (i : IndexNo) → All (IsUsed c q r.0 (has p.0) i) (conditions w q r i p)
-  all_used i = all_from (IsUsed c q r.0 (has p.0) i) (conditions w q r i p) (used i)
+  pub all_used : (i : IndexNo) → All (IsUsed c q r.0 (has p.0) i) (index_scan_conditions w q r i p)
+  all_used i = all_from (IsUsed c q r.0 (has p.0) i) (index_scan_conditions w q r i p) (used i)

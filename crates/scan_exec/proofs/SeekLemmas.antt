@@ -17,7 +17,7 @@ use Rattle.pg_value.specs.declared.value.SqlType.{SqlType}
 use Rattle.pg_value.specs.declared.value.Value.{Value}
 use Rattle.pg_value.specs.Types.{IsOfType}
 use Rattle.opfamily.specs.Answers.{accepted}
-use Rattle.opfamily.specs.KeyOrder.{Entry}
+use Rattle.opfamily.specs.KeyOrder.{IndexEntry}
 use Rattle.opfamily.specs.declared.classes.IndexKey.{IndexKey}
 use Rattle.opfamily.specs.declared.classes.Method.{Method}
 use Rattle.opfamily.specs.declared.classes.Method.TheVariants.{Btree, Hash}
@@ -142,7 +142,7 @@ module _ (c : Contents) (k : Kept) (q : Query) (r : RelNo) (p : RelSet) (outer :
     pub entries_are : entries w i ≡ entries_over d rows
     entries_are = ap (λ (t : TableNo). entries_over d (stored_at w t).rows) on.table
 
-    pub at_entries : (e : Entry) → IsIn e (entries w i) → IsEntryAt d rows e
+    pub at_entries : (e : IndexEntry) → IsIn e (entries w i) → IsEntryAt d rows e
     at_entries e j = all_at (IsEntryAt d rows) (entries_over d rows) (entries_at d rows) e (subst (IsIn e) entries_are j)
 
     -- what is built of the index is over the relation's rows
@@ -187,16 +187,16 @@ module _ (c : Contents) (k : Kept) (q : Query) (r : RelNo) (p : RelSet) (outer :
       pub probes_bound : IsLawful c → d.method ≡ Btree → AreBounds 0 d.keys (probes_from r.0 0 d.keys given es)
       probes_bound contents is = conditions_bound type_of r.0 given given_fits d.keys es (keys_typed contents is) (all_from (IsTyped type_of) es typed)
 
-      abbrev passes : Entry → Bool
+      abbrev passes : IndexEntry → Bool
       passes e = all_true w q (beside q r.0 e.row o) (limits d r.0 es)
 
       limits_typed : All (IsTyped type_of) (conditions_of (numbered_from_0 es))
       limits_typed = subst (All (IsTyped type_of)) (sym (numbered_are 0 es)) (all_from (IsTyped type_of) es typed)
 
-      met_at : d.method ≡ Btree → (e : Entry) → IsEntryAt d rows e → meets_all (probes_from r.0 0 d.keys given es) e.keys ≡ passes e
+      met_at : d.method ≡ Btree → (e : IndexEntry) → IsEntryAt d rows e → meets_all (probes_from r.0 0 d.keys given es) e.keys ≡ passes e
       met_at is e here =
           let own = value_in (slice_index_or rows e.row []) in
-          let keys : e.keys ≡ map (λ (x : IndexKey). own x.col) d.keys = ap (λ (y : Entry). y.keys) here.is in
+          let keys : e.keys ≡ map (λ (x : IndexKey). own x.col) d.keys = ap (λ (y : IndexEntry). y.keys) here.is in
           ap (λ (l : List Cond). meets_all (probes_from r.0 0 d.keys given l) e.keys) (sym (numbered_are 0 es))
           ∙ conditions_met type_of r.0 given given_fits own (own_fits e.row) d.keys e.keys (numbered_from_0 es)
           (keys_of own 0 d.keys e.keys (λ j. ap₂ (λ (vs : List Value) (n : ℕ). key_value_at vs n) keys (let z : 0 + j ≡ j = omega arith in z)))
@@ -212,7 +212,7 @@ module _ (c : Contents) (k : Kept) (q : Query) (r : RelNo) (p : RelSet) (outer :
       pub sought : (t : Tree) → sorted t ≡ built_of d rows → (b : Bool) (ps : List Probe) → ps ≡ probes_from r.0 0 d.keys given es →
           in_direction b (filter (λ e. meets_all ps e.keys) t.entries) ≡ in_direction b (filter passes (entries w i))
       sought t built b ps is =
-          ap₂ (λ (l : List Probe) (x : List Entry). in_direction b (filter (λ e. meets_all l e.keys) x)) is
+          ap₂ (λ (l : List Probe) (x : List IndexEntry). in_direction b (filter (λ e. meets_all l e.keys) x)) is
           (ap (λ (x : Tree). x.entries) (tree_is d rows t built) ∙ sym entries_are)
           ∙ ap (in_direction b) (part_is (is_btree d rows t built))
 

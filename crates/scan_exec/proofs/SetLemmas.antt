@@ -26,7 +26,7 @@ use Rattle.plan_tree.specs.Bitmaps.{condition_at}
 use Rattle.plan_tree.specs.Counts.{all_tree_looks, arm_looks, entries_met, index_looks, tree_looks}
 use Rattle.plan_tree.specs.Entries.{entry_rows}
 use Rattle.plan_tree.specs.Plans.{BitTree, leaf, all_hold, some_arm, BitTrees, no_trees, tree_and}
-use Rattle.plan_tree.specs.Run.{all_hold_row, at_which, conditions, holds, some_holds}
+use Rattle.plan_tree.specs.Run.{all_hold_row, at_which, index_scan_conditions, holds, some_holds}
 use Rattle.plan_tree.specs.Views.{bits, bits_all}
 use Rattle.scan_probes.specs.Filters as refs
 use Rattle.scan_exec.specs.Held.{AreHeldTrees, IsHeldTree, IsMade, set_held, with_arms, with_rows}
@@ -42,19 +42,19 @@ module _ (w : World) (q : Query) (r : RelNo) (p : RelSet) (o : Tuple) where
   all = length (rows_of_relation w q r)
 
   -- a leaf
-  pub own_taken : (i : IndexNo) → nat_lt 0 (length (index_conditions w.contents q.classes i r.0 (has p.0))) ≡ true → (vs : List (Bor Expr)) → refs.lent_conditions vs ≡ conditions w q r i p → takes_parts (index_at w.contents i).method (length vs) ≡ true
+  pub own_taken : (i : IndexNo) → nat_lt 0 (length (index_conditions w.contents q.classes i r.0 (has p.0))) ≡ true → (vs : List (Bor Expr)) → refs.lent_conditions vs ≡ index_scan_conditions w q r i p → takes_parts (index_at w.contents i).method (length vs) ≡ true
   own_taken i some vs are =
       let long = length-map vs (λ (e : Bor Expr). view.cond e.now) in
-      let same : length (refs.lent_conditions vs) ≡ length (conditions w q r i p) = ap length are in
+      let same : length (refs.lent_conditions vs) ≡ length (index_scan_conditions w q r i p) = ap length are in
       let many = length-map (index_conditions w.contents q.classes i r.0 (has p.0)) (λ (y : Numbered). y.cond) in
       let lt = ltb-true 0 (length (index_conditions w.contents q.classes i r.0 (has p.0))) some in
       takes_own (index_at w.contents i).method (filter (λ (y : Numbered). is_condition (index_at w.contents i) r.0 y.cond) (local q.classes r.0 (has p.0))) (length vs) (sym long ∙ same) (omega (arith, long, same, many, lt))
 
-  pub leaf_is : (i : IndexNo) (n : ℕ) → n ≡ all → (s t : TidSet) → s ≡ set_by n [] → (es : List Cond) → es ≡ conditions w q r i p → t ≡ with_rows s (at_which w q r o es (entry_rows w i)) → t ≡ set_held w q r p (leaf i) o
+  pub leaf_is : (i : IndexNo) (n : ℕ) → n ≡ all → (s t : TidSet) → s ≡ set_by n [] → (es : List Cond) → es ≡ index_scan_conditions w q r i p → t ≡ with_rows s (at_which w q r o es (entry_rows w i)) → t ≡ set_held w q r p (leaf i) o
   leaf_is i n ne s t se es ee te =
       te ∙ ap₂ (λ (x : TidSet) (l : List Cond). with_rows x (at_which w q r o l (entry_rows w i))) (se ∙ ap (λ (m : ℕ). set_by m []) ne) ee
 
-  pub leaf_looks : (i : IndexNo) (es : List Cond) → es ≡ conditions w q r i p → (a b : ℕ) → b ≤ a + entries_met w q (index_at w.contents i).method r i o (limits (index_at w.contents i) r.0 es) → b ≤ a + index_looks w q r i p o
+  pub leaf_looks : (i : IndexNo) (es : List Cond) → es ≡ index_scan_conditions w q r i p → (a b : ℕ) → b ≤ a + entries_met w q (index_at w.contents i).method r i o (limits (index_at w.contents i) r.0 es) → b ≤ a + index_looks w q r i p o
   leaf_looks i es ee a b most =
       let e : entries_met w q (index_at w.contents i).method r i o (limits (index_at w.contents i) r.0 es) ≡ index_looks w q r i p o =
       ap (λ (l : List Cond). entries_met w q (index_at w.contents i).method r i o (limits (index_at w.contents i) r.0 l)) ee ∙ index_looks_are w q r p o i in

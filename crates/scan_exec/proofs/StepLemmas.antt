@@ -6,7 +6,7 @@ use Rattle.catalog.specs.Contents.{Contents}
 use Rattle.catalog.specs.Indexes.{Index}
 use Rattle.catalog.specs.Range.{Range}
 use Rattle.heap.specs.Stored.{Values}
-use Rattle.opfamily.specs.KeyOrder.{Entry}
+use Rattle.opfamily.specs.KeyOrder.{IndexEntry}
 use Rattle.pg_expr.specs.Cond.{Cond}
 use Rattle.scan_probes.specs.Scenes.{AreReadyAtEntry, AreReadyAtRow}
 use Rattle.scan_probes.specs.Values.{Given}
@@ -21,7 +21,7 @@ ready_row c range r given es fs rows n row read same ready =
     let P : List Cond → Type 0 = λ l. AreReadyAtRow c range r given l row in
     subst P (sym same) (subst (AreReadyAtRow c range r given es) (get_or_from_slice_get rows n row [] read) ready)
 
-pub ready_entry : (c : Contents) (range : Range) (r : ℕ) (given : Given) (es fs : List Cond) (d : Index) (e : Entry) → fs ≡ es → AreReadyAtEntry c range r given es d e → AreReadyAtEntry c range r given fs d e
+pub ready_entry : (c : Contents) (range : Range) (r : ℕ) (given : Given) (es fs : List Cond) (d : Index) (e : IndexEntry) → fs ≡ es → AreReadyAtEntry c range r given es d e → AreReadyAtEntry c range r given fs d e
 ready_entry c range r given es fs d e same ready =
     let P : List Cond → Type 0 = λ l. AreReadyAtEntry c range r given l d e in
     subst P (sym same) ready
@@ -69,7 +69,7 @@ module _ (r : ℕ) (given : Given) (es : List Cond) (rows : List Values) where
     number_exact = let on = fetched_on old (rows_of r given es rows ns) (fetched_at r given es rows n) f g 0 0 is in omega (arith, on, cost)
 
   -- by an entry
-  module _ (tests : List Cond) (d : Index) (e : Entry) (left : List Entry) (old : List Coming) (f g s t u : ℕ)
+  module _ (tests : List Cond) (d : Index) (e : IndexEntry) (left : List IndexEntry) (old : List Coming) (f g s t u : ℕ)
       (is : IsOnward old (entry_at r given tests es d rows e ∷ map (entry_at r given tests es d rows) left) f g s t) (look : u ≡ t + 1) where
     abbrev this : Coming
     this = entry_at r given tests es d rows e
@@ -107,14 +107,14 @@ module _ (r : ℕ) (given : Given) (es : List Cond) (rows : List Values) where
 
 -- by an entry that covers the columns
 module _ (r : ℕ) (given : Given) (tests es : List Cond) (d : Index) where
-  none_owed : (left : List Entry) → owed (map (covered_at r given tests es d) left) ≡ 0
+  none_owed : (left : List IndexEntry) → owed (map (covered_at r given tests es d) left) ≡ 0
   none_owed [] = refl
   none_owed (e ∷ left) = none_owed left
 
-  pub covered_owed : (left : List Entry) → owed (map (covered_at r given tests es d) left) ≡ 0
+  pub covered_owed : (left : List IndexEntry) → owed (map (covered_at r given tests es d) left) ≡ 0
   covered_owed left = none_owed left
 
-  module _ (e : Entry) (left : List Entry) (old : List Coming) (s t u : ℕ)
+  module _ (e : IndexEntry) (left : List IndexEntry) (old : List Coming) (s t u : ℕ)
       (is : IsOnward old (covered_at r given tests es d e ∷ map (covered_at r given tests es d) left) 0 0 s t) (look : u ≡ t + 1) where
     abbrev cover : Coming
     cover = covered_at r given tests es d e

@@ -23,13 +23,12 @@ use Rattle.catalog.specs.Range.{type_in}
 use Rattle.eq_classes.specs.Classes.{listed}
 use Rattle.eq_classes.specs.Clauses.{Clause, Set, clause, by_conjunct, one}
 use Rattle.eq_classes.specs.Listing.{clause_at}
-use Rattle.eq_classes.specs.Parts.{union}
+use Rattle.eq_classes.specs.Parts.{union, is_local}
 use Rattle.eq_classes.proofs.HoldLemmas.{in_map}
 use Rattle.eq_classes.proofs.ListLemmas.{IsIn, all_from, in_filter}
 use Rattle.index_match.specs.Arms.{arm_parts, arms_of, is_matched, takes_parts}
 use Rattle.index_match.specs.Conditions.{allowed, is_condition}
 use Rattle.index_match.specs.Numbered.{Numbered, conditions_of, local, numbered}
-use Rattle.index_match.specs.Slots.{is_local}
 use Rattle.path_cost.specs.Columns.{is_column_in}
 use Rattle.sql_query.specs.Queries.{Query}
 use Rattle.plan_tree.specs.Bitmaps.{ArePicked, Element, IsBitTree, IsElement, HasArms, HaveArms, MOST_ELEMENTS, MatchesArm, by_clause, by_index, candidates, condition_at, element_of, elements_of, none_left, passed, picked, table_of_relation}

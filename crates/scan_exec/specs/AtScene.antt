@@ -4,7 +4,7 @@ use Rattle.std.specs.List.{AllZip}
 use Rattle.std.specs.Borrow.{Bor}
 use Rattle.pg_base.specs.Sets.{has}
 use Rattle.pg_base.specs.declared.numbers.IndexNo.{IndexNo}
-use Rattle.opfamily.specs.KeyOrder.{Entry}
+use Rattle.opfamily.specs.KeyOrder.{IndexEntry}
 use Rattle.pg_expr.specs.Cond.{Cond}
 use Rattle.pg_expr.specs.declared.expr.Expr.{Expr}
 use Rattle.catalog.specs.Contents.{index_at}
@@ -46,7 +46,7 @@ module _ {C F L : Type 0} (s : Scene C F L) where
 
   -- the conditions that an index scan of it uses inside its index
   abbrev pub scene_conditions : IndexNo → List Cond
-  scene_conditions i = run.conditions (world_of s) s.q.now s.rel i s.param
+  scene_conditions i = run.index_scan_conditions (world_of s) s.q.now s.rel i s.param
 
   -- an index has such a condition
   abbrev pub HasIndexCondition : IndexNo → Type 0
@@ -70,7 +70,7 @@ module _ {C F L : Type 0} (s : Scene C F L) where
   MatchArms arms is = AllZip (MatchesArm s.cat.now s.q.now s.rel.0) arms is
 
   -- the entries of an index that meet those conditions that bound a part of it
-  abbrev pub entries_within : IndexNo → List (Bor Expr) → List Entry
+  abbrev pub entries_within : IndexNo → List (Bor Expr) → List IndexEntry
   entries_within i es =
       filter (λ e. all_true (world_of s) s.q.now (beside s.q.now s.rel.0 e.row (tuple_of s))
       (limits (index_at s.cat.now i) s.rel.0 (lent_conditions es))) (entries (world_of s) i)

@@ -17,7 +17,7 @@ use Rattle.sql_query.specs.Tuples.{Tuple, beside, row_numbers}
 use Rattle.sql_query.specs.Meaning.{all_true}
 use Rattle.plan_tree.specs.Plans.{Plan, seq, index, index_only, bitmap, sort, nest, merge}
 use Rattle.plan_tree.specs.Entries.{entry_rows}
-use Rattle.plan_tree.specs.Run.{at_which, clauses_at, conditions, in_scan_direction, held, met}
+use Rattle.plan_tree.specs.Run.{at_which, clauses_at, index_scan_conditions, in_scan_direction, held, met}
 
 -- a row that a scan comes to: whether a cursor gives an entry for it, whether it is fetched, and whether the scan gives it
 pub record Coming : Type 0 where
@@ -62,8 +62,8 @@ module _ (w : World) (q : Query) where
   entry_row r i only p o row = record {
     row = row;
     looked = true;
-    fetched = cond only false (all_true w q (beside q r.0 row o) (conditions w q r i p));
-    given = all_true w q (beside q r.0 row o) (conditions w q r i p) && all_true w q (beside q r.0 row o) (clauses_at w q r p);
+    fetched = cond only false (all_true w q (beside q r.0 row o) (index_scan_conditions w q r i p));
+    given = all_true w q (beside q r.0 row o) (index_scan_conditions w q r i p) && all_true w q (beside q r.0 row o) (clauses_at w q r p);
   }
 
   -- the rows of the entries that meet the bounds

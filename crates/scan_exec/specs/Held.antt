@@ -5,7 +5,7 @@ use Rattle.pg_base.specs.Sets.{has}
 use Rattle.pg_base.specs.declared.numbers.IndexNo.{IndexNo}
 use Rattle.pg_base.specs.declared.numbers.RelNo.{RelNo}
 use Rattle.pg_base.specs.declared.rel_set.RelSet.{RelSet}
-use Rattle.opfamily.specs.KeyOrder.{Entry}
+use Rattle.opfamily.specs.KeyOrder.{IndexEntry}
 use Rattle.pg_expr.specs.Cond.{Cond}
 use Rattle.heap.specs.TidSets.{TidSet, is_member, rows_passing}
 use Rattle.catalog.specs.Contents.{Contents}
@@ -44,7 +44,7 @@ abbrev pub set_held : World → Query → RelNo → RelSet → BitTree → Tuple
 set_held w q r p tree o = record { bound = length (rows_of_relation w q r); members = held w q r p tree o }
 
 -- what stands at the entries that are put into a set of rows: each is of a row below the bound, and conditions can be tested
-pub record IsReadyMark (c : Contents) (range : Range) (r : ℕ) (given : Given) (es : List Cond) (d : Index) (bound : ℕ) (e : Entry) : Type 0 where
+pub record IsReadyMark (c : Contents) (range : Range) (r : ℕ) (given : Given) (es : List Cond) (d : Index) (bound : ℕ) (e : IndexEntry) : Type 0 where
   pub within : e.row < bound
   pub entry : AreReadyAtEntry c range r given es d e
 
@@ -65,13 +65,13 @@ abbrev mutual
   HasTree (tree_and b bs) = Unit {0}
 
 -- each of a list of entries is of a row below the bound, and the conditions can be tested there
-abbrev pub AreReadyMarks : Tests → ℕ → List Entry → Type 0
+abbrev pub AreReadyMarks : Tests → ℕ → List IndexEntry → Type 0
 AreReadyMarks t bound es =
     All (IsReadyMark t.beside.now.cat.now t.beside.now.range.now t.beside.now.rel.0 t.given.now (lent_conditions t.conditions.now)
     (index_of t.def.now) bound) es
 
 -- the rows of the entries that pass the tests
-abbrev pub passed_rows : Tests → List Entry → List ℕ
+abbrev pub passed_rows : Tests → List IndexEntry → List ℕ
 passed_rows t es =
-    map (λ (e : Entry). e.row)
+    map (λ (e : IndexEntry). e.row)
     (filter (passes_entry t.beside.now.rel.0 t.given.now (lent_conditions t.conditions.now) (index_of t.def.now)) es)

@@ -1,7 +1,7 @@
 -- The rows that a scan has still to come to, where it stands at a place of its relation's rows or of an index. Own.
 use Rattle.std.specs.Prelude.{ℕ, ◌<◌, ◌-◌, true, false, ◌&&◌, Bool, List, [], length, map, slice_index_or, All}
 use Rattle.std.specs.List.{range_with_len}
-use Rattle.opfamily.specs.KeyOrder.{Entry}
+use Rattle.opfamily.specs.KeyOrder.{IndexEntry}
 use Rattle.pg_expr.specs.Cond.{Cond}
 use Rattle.catalog.specs.Contents.{Contents}
 use Rattle.catalog.specs.Indexes.{Index}
@@ -24,7 +24,7 @@ abbrev pub passes_row : ℕ → Given → List Cond → Values → Bool
 passes_row r given es row = are_true (value_beside r (value_in row) given) es
 
 -- conditions are True at an entry beside the rows given, by the values that the index holds
-abbrev pub passes_entry : ℕ → Given → List Cond → Index → Entry → Bool
+abbrev pub passes_entry : ℕ → Given → List Cond → Index → IndexEntry → Bool
 passes_entry r given es d e = are_true (value_beside r (value_in_entry d e) given) es
 
 -- the row of a number is fetched, and given where the clauses are True
@@ -40,7 +40,7 @@ abbrev pub rows_from : ℕ → Given → List Cond → List Values → ℕ → L
 rows_from r given es rows n = rows_of r given es rows (range_with_len n (length rows - n))
 
 -- an entry that a cursor gives: where it meets the tests its row is fetched, and given where the clauses are True there
-abbrev pub entry_at : ℕ → Given → List Cond → List Cond → Index → List Values → Entry → Coming
+abbrev pub entry_at : ℕ → Given → List Cond → List Cond → Index → List Values → IndexEntry → Coming
 entry_at r given tests es d rows e = record {
   row = e.row;
   looked = true;
@@ -49,7 +49,7 @@ entry_at r given tests es d rows e = record {
 }
 
 -- an entry that a cursor of an index-only scan gives, without a fetch: the clauses are tested at the entry too
-abbrev pub covered_at : ℕ → Given → List Cond → List Cond → Index → Entry → Coming
+abbrev pub covered_at : ℕ → Given → List Cond → List Cond → Index → IndexEntry → Coming
 covered_at r given tests es d e = record {
   row = e.row;
   looked = true;
@@ -58,14 +58,14 @@ covered_at r given tests es d e = record {
 }
 
 -- what stands at the entries of an index: each is of a row, and the tests and clauses can be tested there
-pub record IsReadyEntry (c : Contents) (range : Range) (r : ℕ) (given : Given) (tests es : List Cond) (d : Index) (rows : List Values) (e : Entry) : Type 0 where
+pub record IsReadyEntry (c : Contents) (range : Range) (r : ℕ) (given : Given) (tests es : List Cond) (d : Index) (rows : List Values) (e : IndexEntry) : Type 0 where
   pub within : e.row < length rows
   pub entry : AreReadyAtEntry c range r given tests d e
   pub row : AreReadyAtRow c range r given es (slice_index_or rows e.row [])
 
 -- what stands at the entries of an index for an index-only scan: tests and clauses can be tested there, and no row is looked
 -- for
-pub record IsReadyCover (c : Contents) (range : Range) (r : ℕ) (given : Given) (tests es : List Cond) (d : Index) (e : Entry) : Type 0 where
+pub record IsReadyCover (c : Contents) (range : Range) (r : ℕ) (given : Given) (tests es : List Cond) (d : Index) (e : IndexEntry) : Type 0 where
   pub tested : AreReadyAtEntry c range r given tests d e
   pub clauses : AreReadyAtEntry c range r given es d e
 
@@ -99,21 +99,21 @@ module _ (b : Beside) (given : Given) (clauses : List (Bor Expr)) where
 
 module _ (b : Beside) (given : Given) (tests clauses : List (Bor Expr)) (d : IndexDef) where
   -- entries of an index are of rows of a heap, and can be tested
-  abbrev pub AreReadyEntries : Stored → List Entry → Type 0
+  abbrev pub AreReadyEntries : Stored → List IndexEntry → Type 0
   AreReadyEntries heap es =
       All (IsReadyEntry b.cat.now b.range.now b.rel.0 given (lent_conditions tests) (lent_conditions clauses) (index_of d)
       heap.rows) es
 
   -- the rows of these entries
-  abbrev pub rows_of_entries : Stored → List Entry → List Coming
+  abbrev pub rows_of_entries : Stored → List IndexEntry → List Coming
   rows_of_entries heap es =
       map (entry_at b.rel.0 given (lent_conditions tests) (lent_conditions clauses) (index_of d) heap.rows) es
 
   -- entries can be tested without their rows
-  abbrev pub AreReadyCovers : List Entry → Type 0
+  abbrev pub AreReadyCovers : List IndexEntry → Type 0
   AreReadyCovers es =
       All (IsReadyCover b.cat.now b.range.now b.rel.0 given (lent_conditions tests) (lent_conditions clauses) (index_of d)) es
 
   -- the rows of these entries, none of which is fetched
-  abbrev pub covered_rows : List Entry → List Coming
+  abbrev pub covered_rows : List IndexEntry → List Coming
   covered_rows es = map (covered_at b.rel.0 given (lent_conditions tests) (lent_conditions clauses) (index_of d)) es

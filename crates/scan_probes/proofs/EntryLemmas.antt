@@ -8,7 +8,7 @@ use Rattle.opfamily.specs.declared.classes.IndexKey.{IndexKey}
 use Rattle.pg_base.specs.declared.numbers.ColNo.{ColNo}
 use Rattle.pg_value.specs.declared.value.Value.{Value}
 use Rattle.pg_value.specs.declared.value.Value.TheVariants.{Null}
-use Rattle.opfamily.specs.KeyOrder.{Entry}
+use Rattle.opfamily.specs.KeyOrder.{IndexEntry}
 use Rattle.catalog.specs.Indexes.{Index}
 use Rattle.scan_probes.specs.Values.{HasEntryValue, key_columns, value_among, value_in_entry}
 
@@ -38,7 +38,7 @@ module _ (ns : List ColNo) (vs : List Value) (other : Value) (c : ColNo) (k : �
         held = ap (λ (b : Bool). (b || list_any (is_same c) (drop (k + 1) ns)) || rest) (sym test) ∙ any;
       }
 
-module _ (d : Index) (e : Entry) (c : ColNo) (has : HasEntryValue d e c) where
+module _ (d : Index) (e : IndexEntry) (c : ColNo) (has : HasEntryValue d e c) where
   abbrev any_included : Bool
   any_included = list_any (is_same c) d.include
 

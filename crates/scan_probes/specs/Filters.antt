@@ -4,7 +4,7 @@ use Rattle.std.specs.Borrow.{Bor}
 use Rattle.pg_expr.specs.declared.expr.Expr.{Expr}
 use Rattle.pg_expr.specs.Cond.{Cond}
 use Rattle.pg_expr.specs.View.{cond}
-use Rattle.opfamily.specs.KeyOrder.{Entry}
+use Rattle.opfamily.specs.KeyOrder.{IndexEntry}
 use Rattle.pg_expr.specs.AtomSets.{contains}
 use Rattle.catalog.specs.Entries.{index_of}
 use Rattle.catalog.specs.declared.index_def.IndexDef.{IndexDef}
@@ -28,7 +28,7 @@ abbrev pub AreTestedAtRow : Beside → Given → List (Bor Expr) → Values → 
 AreTestedAtRow b given es row = AreReadyAtRow b.cat.now b.range.now b.rel.0 given (lent_conditions es) row
 
 -- conditions can be tested at an entry of an index on the relation beside the rows given
-abbrev pub AreTestedAtEntry : Beside → Given → List (Bor Expr) → IndexDef → Entry → Type 0
+abbrev pub AreTestedAtEntry : Beside → Given → List (Bor Expr) → IndexDef → IndexEntry → Type 0
 AreTestedAtEntry b given es d e = AreReadyAtEntry b.cat.now b.range.now b.rel.0 given (lent_conditions es) (index_of d) e
 
 -- whether the conditions are True at that row
@@ -36,5 +36,5 @@ abbrev pub is_met_at_row : Beside → Given → List (Bor Expr) → Values → B
 is_met_at_row b given es row = are_true (value_beside b.rel.0 (value_in row) given) (lent_conditions es)
 
 -- whether the conditions are True at an entry, by the values that the index holds
-abbrev pub is_met_at_entry : Beside → Given → List (Bor Expr) → IndexDef → Entry → Bool
+abbrev pub is_met_at_entry : Beside → Given → List (Bor Expr) → IndexDef → IndexEntry → Bool
 is_met_at_entry b given es d e = are_true (value_beside b.rel.0 (value_in_entry (index_of d) e) given) (lent_conditions es)

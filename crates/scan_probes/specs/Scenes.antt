@@ -6,7 +6,7 @@ use Rattle.pg_base.specs.declared.numbers.ColNo.{ColNo}
 use Rattle.pg_base.specs.declared.numbers.Tid.{Tid}
 use Rattle.pg_base.specs.declared.rel_set.RelSet.{RelSet}
 use Rattle.pg_value.specs.declared.value.Value.{Value}
-use Rattle.opfamily.specs.KeyOrder.{Entry}
+use Rattle.opfamily.specs.KeyOrder.{IndexEntry}
 use Rattle.pg_expr.specs.declared.operand.ColRef.{ColRef}
 use Rattle.pg_expr.specs.Columns.{each_column}
 use Rattle.pg_expr.specs.Cond.{Cond}
@@ -79,7 +79,7 @@ abbrev pub AreReadyAtRow : Contents → Range → ℕ → Given → List Cond �
 AreReadyAtRow c range r given es row = AreReady c range r (is_within row) (value_in row) given es
 
 -- conditions can be tested at an entry without its row: the index holds each column of the relation that they name
-abbrev pub AreReadyAtEntry : Contents → Range → ℕ → Given → List Cond → Index → Entry → Type 0
+abbrev pub AreReadyAtEntry : Contents → Range → ℕ → Given → List Cond → Index → IndexEntry → Type 0
 AreReadyAtEntry c range r given es d e = AreReady c range r (has_entry_value d e) (value_in_entry d e) given es
 
 -- conditions can be tested where a scan stands, at a row or at an entry

@@ -5,7 +5,7 @@ use Rattle.pg_base.specs.declared.numbers.ColNo.{ColNo}
 use Rattle.pg_value.specs.declared.value.Value.{Value}
 use Rattle.pg_value.specs.declared.value.Value.TheVariants.{Null}
 use Rattle.pg_value.specs.Truths.{is_true}
-use Rattle.opfamily.specs.KeyOrder.{Entry}
+use Rattle.opfamily.specs.KeyOrder.{IndexEntry}
 use Rattle.opfamily.specs.declared.classes.IndexKey.{IndexKey}
 use Rattle.pg_expr.specs.declared.operand.ColRef.{ColRef}
 use Rattle.pg_expr.specs.Cond.{Cond}
@@ -58,7 +58,7 @@ abbrev pub key_columns : Index → List ColNo
 key_columns d = map (λ (k : IndexKey). k.col) d.keys
 
 -- the value of a column in an entry: a key value before an included one; NULL where the index does not hold the column
-abbrev pub value_in_entry : Index → Entry → ColNo → Value
+abbrev pub value_in_entry : Index → IndexEntry → ColNo → Value
 value_in_entry d e c = value_among (key_columns d) e.keys (value_among d.include e.include Null c) c
 
 -- an index holds a column, so that an entry has its value (PostgreSQL manual, Index-Only Scans and Covering Indexes)
@@ -66,14 +66,14 @@ abbrev pub is_held : Index → ColNo → Bool
 is_held d c = list_any (λ (n : ColNo). nat_eq c.0 n.0) (key_columns d) || list_any (λ (n : ColNo). nat_eq c.0 n.0) d.include
 
 -- the column is a key column or one included, of which there are fewer than 256, and the entry has a value for each of these
-pub record HasEntryValue (d : Index) (e : Entry) (c : ColNo) : Type 0 where
+pub record HasEntryValue (d : Index) (e : IndexEntry) (c : ColNo) : Type 0 where
   pub held : is_held d c ≡ true
   pub keys : length e.keys ≡ length d.keys
   pub include : length e.include ≡ length d.include
   pub few : length d.keys + length d.include < 256
 
 -- the test of the same: the value of the column can be read from the entry
-abbrev pub has_entry_value : Index → Entry → ColNo → Bool
+abbrev pub has_entry_value : Index → IndexEntry → ColNo → Bool
 has_entry_value d e c =
     is_held d c && (nat_eq (length e.keys) (length d.keys) && (nat_eq (length e.include) (length d.include) && nat_lt (length d.keys + length d.include) 256))
 

@@ -8,7 +8,7 @@ use Rattle.sql_grammar.specs.declared.class.Word.TheVariants.{And, Is, Not}
 use Rattle.sql_grammar.specs.declared.class.Symbol.TheVariants.{Close, Dot}
 use Rattle.sql_grammar.specs.declared.table.Item.{Item}
 use Rattle.sql_grammar.specs.declared.table.Item.TheVariants.{Keyword, Label, Ends, Nullness, MoreColumns, Negation, MoreAnds, MoreOrs, Closes, NotEnds, AfterName, AfterColumn, AfterTruth, Side, AfterQualifier, Result, MoreResults, AfterResult, MaybeAlias, MoreJoins, MoreGroups, MaybeWhere, MaybeCommon, MoreShares, MaybeHistogram, MoreBounds, Literal, Digits}
-use Rattle.sql_grammar.specs.Syntax.{Key, Mark, IsBareAlias, bare, qualified, yes, no, unknown, Lit, number, negative, quoted, constant, Operand, column, literal, Expr, either_of, Ors, no_or, or_conj, Conj, both_of, Ands, no_and, and_neg, Negated, no_not, not_before, Neg, negated, plain, Atom, parens, compare, is_null, is_not_null, in_list, between, column_alone, constant_alone, Nulls, unwritten, not_null, nullable, ColDef, coldef, Output, every, every_of, one, Alias, no_alias, bare_alias, as_alias, Where, no_where, where_expr, Share, share, Common, no_common, common, Histogram, no_histogram, histogram, Ending, semicolon, text_end}
+use Rattle.sql_grammar.specs.Syntax.{Key, Mark, IsBareAlias, bare, qualified, yes, no, unknown, Lit, number, negative, quoted, constant, OperandTree, column, literal, Expr, either_of, Ors, no_or, or_conj, Conj, both_of, Ands, no_and, and_neg, Negated, no_not, not_before, Neg, negated, plain, Atom, parens, compare, is_null, is_not_null, in_list, between, column_alone, constant_alone, Nulls, unwritten, not_null, nullable, ColDef, coldef, Output, every, every_of, one, Alias, no_alias, bare_alias, as_alias, Where, no_where, where_expr, Share, share, CommonPart, no_common, common, Histogram, no_histogram, histogram, Ending, semicolon, text_end}
 use Rattle.sql_grammar.specs.Words.{words_of_lit, words_of_operand, words_of_expr, words_of_ors, words_of_conj, words_of_ands, words_of_neg, words_of_atom, words_of_nulls, words_of_coldef, words_of_columns, words_of_output, words_of_outputs, words_of_alias, words_of_where, words_of_share, words_of_shares, words_of_common, words_of_bounds, words_of_histogram, words_of_ending, levels_of_where, levels_of_expr, levels_of_ors, levels_of_conj, levels_of_ands, levels_of_neg, levels_of_atom}
 use Rattle.sql_grammar.specs.Table.{takes_of, is_optional}
 use Rattle.sql_grammar.specs.Machine.{depth_of, takes_all}
@@ -73,7 +73,7 @@ module _ (limit : ℕ) where
   level-ends s [] = refl
   level-ends s (t ∷ ts) = refl
 
-  pub side : (o : Operand) (s : List Item) (ts : List Terminal) → Passes AfterQualifier ts → takes_all limit (words_of_operand o ++ ts) (Side ∷ s) ≡ takes_all limit ts s
+  pub side : (o : OperandTree) (s : List Item) (ts : List Terminal) → Passes AfterQualifier ts → takes_all limit (words_of_operand o ++ ts) (Side ∷ s) ≡ takes_all limit ts s
   side (column (bare n)) s ts p = skip AfterQualifier s ts refl p
   side (column (qualified q d n)) s ts p = refl
   side (literal (number n)) s ts p = refl
@@ -83,7 +83,7 @@ module _ (limit : ℕ) where
   side (literal (constant no k)) s ts p = refl
   side (literal (constant unknown k)) s ts p = refl
 
-  compared : (l : Operand) (op : Said) (r : Operand) (s : List Item) (ts : List Terminal) → Passes AfterQualifier ts →
+  compared : (l : OperandTree) (op : Said) (r : OperandTree) (s : List Item) (ts : List Terminal) → Passes AfterQualifier ts →
       takes_all limit (words_of_atom (compare l op r) ++ ts) (Negation ∷ s) ≡ takes_all limit ts s
   compared (column (bare n)) op r s ts p = side r s ts p
   compared (column (qualified q d n)) op r s ts p = side r s ts p
@@ -116,12 +116,12 @@ module _ (limit : ℕ) where
       (ap (λ x. takes_all limit (words_of_lit l ++ x) (Literal ∷ MoreBounds ∷ s)) (append_assoc (words_of_bounds ls) (t_mark Close m ∷ []) ts) ∙ bounds l ls m s ts)
 
   -- the two sides behind BETWEEN
-  ranged : (a b : Operand) (j : Key) (s : List Item) (ts : List Terminal) → Passes AfterQualifier ts →
+  ranged : (a b : OperandTree) (j : Key) (s : List Item) (ts : List Terminal) → Passes AfterQualifier ts →
       takes_all limit ((words_of_operand a ++ t_key And j ∷ words_of_operand b) ++ ts) (Side ∷ Keyword And ∷ Side ∷ s) ≡ takes_all limit ts s
   ranged a b j s ts p =
       apart (words_of_operand a) (t_key And j ∷ words_of_operand b) ts _ ∙ (side a (Keyword And ∷ Side ∷ s) (t_key And j ∷ (words_of_operand b ++ ts)) refl ∙ side b s ts p)
 
-  between-sides : (l : Operand) (z : Negated) (w : Token) (a : Operand) (j : Key) (b : Operand) (s : List Item) (ts : List Terminal) → Passes AfterQualifier ts →
+  between-sides : (l : OperandTree) (z : Negated) (w : Token) (a : OperandTree) (j : Key) (b : OperandTree) (s : List Item) (ts : List Terminal) → Passes AfterQualifier ts →
       takes_all limit (words_of_atom (between tt l z w a j b) ++ ts) (Negation ∷ s) ≡ takes_all limit ts s
   between-sides (column (bare n)) no_not w a j b s ts p = ranged a b j s ts p
   between-sides (column (bare n)) (not_before e) w a j b s ts p = ranged a b j s ts p
@@ -249,7 +249,7 @@ module _ (limit : ℕ) where
       (lit l (Digits ∷ MoreShares ∷ s) (t_number n ∷ (words_of_shares ((c, x) ∷ xs) ++ t_mark Close m ∷ ts)) ∙
       (apart (words_of_share x) (words_of_shares xs) (t_mark Close m ∷ ts) _ ∙ shares x xs m s ts))
 
-  pub common-values : (v : Common) (s : List Item) (ts : List Terminal) → Passes MaybeCommon ts → takes_all limit (words_of_common v ++ ts) (MaybeCommon ∷ s) ≡ takes_all limit ts s
+  pub common-values : (v : CommonPart) (s : List Item) (ts : List Terminal) → Passes MaybeCommon ts → takes_all limit (words_of_common v ++ ts) (MaybeCommon ∷ s) ≡ takes_all limit ts s
   common-values no_common s ts p = skip MaybeCommon s ts refl p
   common-values (common k o x xs m) s ts p =
       apart (words_of_share x) (words_of_shares xs ++ t_mark Close m ∷ []) ts _ ∙

@@ -13,7 +13,7 @@ use Rattle.sql_grammar.specs.declared.offered.TheConstants.{READS_LISTS}
 use Rattle.sql_grammar.specs.Terminals.{Terminal, Ident, free, token_of, t_key, t_mark, t_name, t_number, t_quoted, t_operator}
 use Rattle.sql_grammar.specs.Reading.{terminal_by, word_terminal, symbol_terminal, ident_of, free_of, reserved_of, bytes_of_token}
 use Rattle.sql_grammar.specs.Faults.{terminals}
-use Rattle.sql_grammar.specs.Syntax.{IsOffered, Mark, Lit, bare, qualified, yes, no, unknown, number, negative, quoted, constant, Operand, column, literal, Expr, either_of, Ors, no_or, or_conj, Conj, both_of, Ands, no_and, and_neg, Negated, no_not, not_before, Neg, negated, plain, Atom, parens, compare, is_null, is_not_null, in_list, between, column_alone, constant_alone}
+use Rattle.sql_grammar.specs.Syntax.{IsOffered, Mark, Lit, bare, qualified, yes, no, unknown, number, negative, quoted, constant, OperandTree, column, literal, Expr, either_of, Ors, no_or, or_conj, Conj, both_of, Ands, no_and, and_neg, Negated, no_not, not_before, Neg, negated, plain, Atom, parens, compare, is_null, is_not_null, in_list, between, column_alone, constant_alone}
 use Rattle.sql_grammar.specs.Unique.{token_in, ends_operand, ends_atom, ends_conj, ends_expr, is_parens, front, tail}
 use Rattle.sql_grammar.specs.Words.{words_of_lit, words_of_bounds, words_of_negated, words_of_col, words_of_operand, words_of_expr, words_of_ors, words_of_conj, words_of_ands, words_of_neg, words_of_atom}
 use Rattle.sql_grammar.proofs.ListLemmas.{one_list}
@@ -88,7 +88,7 @@ pub tested : (test : List Terminal → Bool) (x y : List Terminal) → test x �
 tested test x y h k e = let also : true ≡ false = sym h ∙ (ap test e ∙ k) in absurd (cc)
 
 -- the kind of an operand, by its first words
-abbrev operand_kind : Operand → ℕ
+abbrev operand_kind : OperandTree → ℕ
 operand_kind (column (bare n)) = 0
 operand_kind (column (qualified q d n)) = 1
 operand_kind (literal (number n)) = 2
@@ -114,7 +114,7 @@ bare-kind n [] h = refl
 bare-kind n (t_mark Dot d ∷ x) h = absurd (cc)
 bare-kind n (_ ∷ x) h = refl
 
-kind-is : (o : Operand) (x : List Terminal) → ends_operand x ≡ true → kind_of (words_of_operand o ++ x) ≡ operand_kind o
+kind-is : (o : OperandTree) (x : List Terminal) → ends_operand x ≡ true → kind_of (words_of_operand o ++ x) ≡ operand_kind o
 kind-is (column (bare n)) x h = bare-kind n x h
 kind-is (column (qualified q d n)) x h = refl
 kind-is (literal (number n)) x h = refl
@@ -124,7 +124,7 @@ kind-is (literal (constant yes k)) x h = refl
 kind-is (literal (constant no k)) x h = refl
 kind-is (literal (constant unknown k)) x h = refl
 
-operand-by : (a b : Operand) (x y : List Terminal) → operand_kind a ≡ operand_kind b → words_of_operand a ++ x ≡ words_of_operand b ++ y → (a ≡ b) × (x ≡ y)
+operand-by : (a b : OperandTree) (x y : List Terminal) → operand_kind a ≡ operand_kind b → words_of_operand a ++ x ≡ words_of_operand b ++ y → (a ≡ b) × (x ≡ y)
 operand-by (column (bare n)) (column (bare m)) x y k e = let name : n ≡ m = cc in (cc (name), ap (drop 1) e)
 operand-by (column (qualified q d n)) (column (qualified r f m)) x y k e = let table : q ≡ r = cc in let dot : d ≡ f = cc in let name : n ≡ m = cc in (cc (table, dot, name), ap (drop 3) e)
 operand-by (literal (number n)) (literal (number m)) x y k e = let same : n ≡ m = cc in (cc (same), ap (drop 1) e)
@@ -190,7 +190,7 @@ operand-by (literal (constant unknown a1)) (literal (quoted a2)) x y k e = absur
 operand-by (literal (constant unknown a1)) (literal (constant yes a2)) x y k e = absurd (omega (arith, k))
 operand-by (literal (constant unknown a1)) (literal (constant no a2)) x y k e = absurd (omega (arith, k))
 
-pub one_operand : (a b : Operand) (x y : List Terminal) → ends_operand x ≡ true → ends_operand y ≡ true → words_of_operand a ++ x ≡ words_of_operand b ++ y → (a ≡ b) × (x ≡ y)
+pub one_operand : (a b : OperandTree) (x y : List Terminal) → ends_operand x ≡ true → ends_operand y ≡ true → words_of_operand a ++ x ≡ words_of_operand b ++ y → (a ≡ b) × (x ≡ y)
 one_operand a b x y h k e = operand-by a b x y (sym (kind-is a x h) ∙ (ap kind_of e ∙ kind-is b y k)) e
 
 pub parted : (a : Atom) (x : List Terminal) → is_parens a ≡ false → words_of_atom a ++ x ≡ words_of_operand (front a) ++ tail a x
@@ -282,7 +282,7 @@ one_listed l k ls ks m n x y e =
     (first, others, close, rest)
 
 -- the two sides behind BETWEEN
-one_ranged : (a b c d : Operand) (j k : Token) (x y : List Terminal) → ends_operand x ≡ true → ends_operand y ≡ true →
+one_ranged : (a b c d : OperandTree) (j k : Token) (x y : List Terminal) → ends_operand x ≡ true → ends_operand y ≡ true →
     words_of_operand a ++ t_key And j ∷ (words_of_operand b ++ x) ≡ words_of_operand c ++ t_key And k ∷ (words_of_operand d ++ y) → (a ≡ c) × (j ≡ k) × (b ≡ d) × (x ≡ y)
 one_ranged a b c d j k x y h i e =
     let (low, more) = one_operand a c (t_key And j ∷ (words_of_operand b ++ x)) (t_key And k ∷ (words_of_operand d ++ y)) refl refl e in
@@ -340,7 +340,7 @@ opens (t_mark Open _ ∷ _) = 1
 opens (t_key Not _ ∷ _) = 2
 opens _ = 0
 
-opens-operand : (o : Operand) (x : List Terminal) → opens (words_of_operand o ++ x) ≡ 0
+opens-operand : (o : OperandTree) (x : List Terminal) → opens (words_of_operand o ++ x) ≡ 0
 opens-operand (column (bare n)) x = refl
 opens-operand (column (qualified q d n)) x = refl
 opens-operand (literal (number n)) x = refl

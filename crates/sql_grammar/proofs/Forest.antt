@@ -7,11 +7,11 @@ use Rattle.sql_grammar.specs.declared.class.Free.TheVariants.{Distinct, Explain,
 use Rattle.sql_grammar.specs.declared.class.Symbol.TheVariants.{Close, Comma, Dot}
 use Rattle.sql_grammar.specs.declared.table.Item.{Item}
 use Rattle.sql_grammar.specs.declared.table.Item.TheVariants.{Keyword, Sign, FreeWord, Label, Digits, QuotedText, Whole, Ends, Stop, Query, Nullness, MoreColumns, Result, MoreResults, AfterResult, StarOrLabel, MaybeAlias, MoreJoins, MoreGroups, MaybeWhere, Figures, MaybeCommon, MoreShares, MaybeHistogram, MoreBounds, Literal, Negation, MoreAnds, MoreOrs, Closes, NotEnds, AfterName, AfterColumn, AfterNot, AfterIs, AfterLiteral, AfterTruth, Side, AfterQualifier, MaybeOrder, MoreOrderings, MaybeLimit, MaybeOffset, MaybeDirection, MaybeNulls, FirstOrLast, AfterCreate, MaybeUsing, MaybeClass, MoreKeys, MaybeInclude, MoreNames, AfterExplain, Candidate, MoreCands, AdvisedSelect, MoreAdvised, FirstItem, AfterDistinct, PlainItem, AfterPlain, PlainNext, PlainTail, GroupedItem, AfterGroupedName, MoreGroupedItems, Argument, MaybeGroup, MoreGroupColumns}
-use Rattle.sql_grammar.specs.Syntax.{Key, Mark, Col, Constant, Lit, constant, Operand, Ors, Ands, Neg, Atom, Nulls, ColDef, Output, Alias, Join, Group, Where, Select, Share, Common, Histogram, Ending, Statement}
+use Rattle.sql_grammar.specs.Syntax.{Key, Mark, Col, Constant, Lit, constant, OperandTree, Ors, Ands, Neg, Atom, Nulls, ColDef, Output, Alias, Join, Group, Where, Select, Share, CommonPart, Histogram, Ending, Statement}
 use Rattle.sql_grammar.specs.Words.{words_of, words_of_col, words_of_lit, words_of_operand, words_of_ors, words_of_ands, words_of_neg, words_of_atom, words_of_nulls, words_of_columns, words_of_output, words_of_outputs, words_of_alias, words_of_joins, words_of_groups, words_of_where, words_of_select, words_of_common, words_of_shares, words_of_histogram, words_of_bounds, words_of_ending, levels_of, levels_of_joins, levels_of_groups, levels_of_where, levels_of_select, levels_of_ors, levels_of_ands, levels_of_neg, levels_of_atom}
-use Rattle.sql_grammar.specs.Syntax.{Direction, NullsEnd, Ordering, OrderBy, Limit, Offset}
+use Rattle.sql_grammar.specs.Syntax.{Direction, NullsEnd, Ordering, OrderBy, LimitTree, Offset}
 use Rattle.sql_grammar.specs.Words.{words_of_direction, words_of_nulls_end, words_of_orderings, words_of_order, words_of_limit, words_of_offset}
-use Rattle.sql_grammar.specs.Syntax.{OpClass, IndexKey, Using, Include}
+use Rattle.sql_grammar.specs.Syntax.{ClassTree, KeyTree, Using, Include}
 use Rattle.sql_grammar.specs.Syntax.{Cand, Advised, MaybeExplain, Argument as ArgumentTree, GroupedItem as GroupedItemTree, GroupBy}
 use Rattle.sql_grammar.specs.Words.{words_of_maybe_explain, words_of_argument, words_of_grouped_item, words_of_grouped_items, words_of_group_by, words_of_group_columns, words_of_cand, words_of_cands, words_of_advised, words_of_more_advised, levels_of_cand, levels_of_cands, levels_of_advised, levels_of_more_advised}
 use Rattle.sql_grammar.specs.Words.{words_of_class, words_of_keys, words_of_using, words_of_names, words_of_include}
@@ -79,7 +79,7 @@ kind_of limit depth AfterNot = behind (λ ts. (c : Col) (k : Key) → Atom_after
 kind_of limit depth AfterIs = behind (λ ts. (c : Col) (k : Key) → Atom_after (words_of_col c) (t_key Is k ∷ ts))
 kind_of limit depth AfterLiteral = behind (λ ts. (l : Lit) → Atom_after (words_of_lit l) ts)
 kind_of limit depth AfterTruth = behind (λ ts. (c : Constant) (k : Key) → Atom_after (words_of_lit (constant c k)) ts)
-kind_of limit depth Side = (Operand, words_of_operand)
+kind_of limit depth Side = (OperandTree, words_of_operand)
 kind_of limit depth AfterQualifier = behind (λ ts. (n : Ident) → (c : Col) × (words_of_col c ≡ t_name n ∷ ts))
 kind_of limit depth Result = (Output, words_of_output)
 kind_of limit depth MoreResults = (List (Mark × Output), words_of_outputs)
@@ -90,22 +90,22 @@ kind_of limit depth MoreJoins = within limit depth (List Join) levels_of_joins w
 kind_of limit depth MoreGroups = within limit depth (List (Mark × Group)) levels_of_groups words_of_groups
 kind_of limit depth MaybeWhere = within limit depth Where levels_of_where words_of_where
 kind_of limit depth Figures = behind (λ ts. Statement_after ts)
-kind_of limit depth MaybeCommon = (Common, words_of_common)
+kind_of limit depth MaybeCommon = (CommonPart, words_of_common)
 kind_of limit depth MoreShares = closed (List (Mark × Share)) words_of_shares
 kind_of limit depth MaybeHistogram = (Histogram, words_of_histogram)
 kind_of limit depth MoreBounds = closed (List (Mark × Lit)) words_of_bounds
 kind_of limit depth Literal = (Lit, words_of_lit)
 kind_of limit depth MaybeOrder = (OrderBy, words_of_order)
 kind_of limit depth MoreOrderings = (List (Mark × Ordering), words_of_orderings)
-kind_of limit depth MaybeLimit = (Limit, words_of_limit)
+kind_of limit depth MaybeLimit = (LimitTree, words_of_limit)
 kind_of limit depth MaybeOffset = (Offset, words_of_offset)
 kind_of limit depth MaybeDirection = (Direction, words_of_direction)
 kind_of limit depth MaybeNulls = (NullsEnd, words_of_nulls_end)
 kind_of limit depth FirstOrLast = behind (λ ts. (k : Token) → (n : NullsEnd) × (words_of_nulls_end n ≡ t_name (free NullsWord k) ∷ ts))
 kind_of limit depth AfterCreate = behind (λ ts. (k : Key) → (x : Statement) × (words_of x ≡ t_key Create k ∷ ts) × (levels_of x + depth ≤ limit))
 kind_of limit depth MaybeUsing = (Using, words_of_using)
-kind_of limit depth MaybeClass = (OpClass, words_of_class)
-kind_of limit depth MoreKeys = closed (List (Mark × IndexKey)) words_of_keys
+kind_of limit depth MaybeClass = (ClassTree, words_of_class)
+kind_of limit depth MoreKeys = closed (List (Mark × KeyTree)) words_of_keys
 kind_of limit depth MaybeInclude = (Include, words_of_include)
 kind_of limit depth MoreNames = closed (List (Mark × Ident)) words_of_names
 kind_of limit depth AfterExplain = behind (λ ts. (k : Token) → Statement_of limit depth (t_name (free Explain k) ∷ ts))

@@ -8,7 +8,7 @@ use Rattle.sql_grammar.specs.declared.class.Symbol.TheVariants.{Close, Comma}
 use Rattle.sql_grammar.specs.declared.offered.TheConstants.{READS_GROUPS, READS_TABLE, READS_WINDOW}
 use Rattle.sql_grammar.specs.declared.table.Item.{Item}
 use Rattle.sql_grammar.specs.declared.table.Item.TheVariants.{MoreResults, Result, AfterDistinct, FirstItem, Keyword, Sign, FreeWord, Label, Digits, Whole, Ends, Query, MaybeAlias, MoreJoins, MoreGroups, MaybeWhere, AfterQualifier, MaybeOrder, MaybeLimit, MaybeOffset, PlainItem, PlainTail, GroupedItem, AfterGroupedName, MoreGroupedItems, Argument, MaybeGroup, MoreGroupColumns}
-use Rattle.sql_grammar.specs.Syntax.{IsOffered, Key, Mark, Col, bare, qualified, Output, every, every_of, one, Group, Where, Select, select_from, Ending, semicolon, text_end, OrderBy, no_order, order_by, no_limit, most_rows, Offset, no_offset, skipped_rows, Window, window, no_explain, explain, explain_table, OrderedSelect, ordered_select, Argument as ArgumentTree, all_rows, of_col, GroupedItem as ItemTree, plain_item, call, GroupBy, no_group_by, group_by, is_call, has_call, is_written, Holds, GroupedSelect, distinct_select, grouped_select}
+use Rattle.sql_grammar.specs.Syntax.{IsOffered, Key, Mark, Col, bare, qualified, Output, every, every_of, one, Group, Where, Select, select_from, Ending, semicolon, text_end, OrderBy, no_order, order_by, no_limit, most_rows, Offset, no_offset, skipped_rows, WindowTree, window, no_explain, explain, explain_table, OrderedSelect, ordered_select, Argument as ArgumentTree, all_rows, of_col, GroupedItem as ItemTree, plain_item, call, GroupBy, no_group_by, group_by, is_call, has_call, is_written, Holds, GroupedSelect, distinct_select, grouped_select}
 use Rattle.sql_grammar.specs.Words.{words_of_col, words_of_output, words_of_outputs, words_of_group, words_of_groups, words_of_where, words_of_select, words_of_order, words_of_offset, words_of_window, words_of_ending, words_of_ordered, words_of_argument, words_of_grouped_item, words_of_grouped_items, words_of_group_columns, words_of_group_by, words_of_grouped, levels_of_group, levels_of_groups, levels_of_where, levels_of_select, levels_of_ordered, levels_of_grouped}
 use Rattle.sql_grammar.specs.Machine.{depth_of, by_row, takes_then, takes_all}
 use Rattle.sql_grammar.proofs.Complete.{Passes, EndsSelect, skip, apart, ending, outputs}
@@ -107,7 +107,7 @@ module _ (limit : ℕ) where
   skipped-tail true p n e = ending limit e
   skipped-tail false p n e = absurd p
 
-  plain-tail : (y : OrderBy) (v : Window) (e : Ending) → takes_all limit (words_of_order y ++ (words_of_window v ++ words_of_ending e)) (PlainTail ∷ []) ≡ true
+  plain-tail : (y : OrderBy) (v : WindowTree) (e : Ending) → takes_all limit (words_of_order y ++ (words_of_window v ++ words_of_ending e)) (PlainTail ∷ []) ≡ true
   plain-tail (order_by k b o os) v e =
       order limit (order_by k b o os) (MaybeLimit ∷ MaybeOffset ∷ Ends ∷ []) (words_of_window v ++ words_of_ending e) (window-order v (words_of_ending e) (ending-window e)) ∙
       (windowed limit v (words_of_ending e) (Ends ∷ []) (ending-window e) ∙ ending limit e)
@@ -117,7 +117,7 @@ module _ (limit : ℕ) where
   plain-tail no_order (window no_limit no_offset) (text_end t) = refl
 
   -- a SELECT without calls and GROUP BY, behind its first word
-  plain-behind : (o : Output) (os : List (Mark × Output)) (f : Key) (g : Group) (gs : List (Mark × Group)) (w : Where) (y : OrderBy) (v : Window) (e : Ending) →
+  plain-behind : (o : Output) (os : List (Mark × Output)) (f : Key) (g : Group) (gs : List (Mark × Group)) (w : Where) (y : OrderBy) (v : WindowTree) (e : Ending) →
       levels_of_group g ≤ limit → levels_of_groups gs ≤ limit → levels_of_where w ≤ limit →
       takes_all limit ((words_of_output o ++ (words_of_outputs os ++ t_key From f ∷ (words_of_group g ++ (words_of_groups gs ++ words_of_where w)))) ++ (words_of_order y ++ (words_of_window v ++ words_of_ending e)))
       (FirstItem ∷ []) ≡ true
@@ -129,7 +129,7 @@ module _ (limit : ℕ) where
       (after-select limit y (words_of_window v ++ words_of_ending e) (window-order v (words_of_ending e) (ending-window e))) ∙ plain-tail y v e)))
 
   -- (TABLE) behind EXPLAIN
-  tabled : (b : Bool) → IsOffered b → (t m : Token) (q : Select) (y : OrderBy) (v : Window) (e : Ending) → levels_of_select q ≤ limit →
+  tabled : (b : Bool) → IsOffered b → (t m : Token) (q : Select) (y : OrderBy) (v : WindowTree) (e : Ending) → levels_of_select q ≤ limit →
       takes_then (by_row limit (cond b (Some (Keyword Table ∷ Sign Close ∷ Query ∷ MaybeOrder ∷ MaybeLimit ∷ MaybeOffset ∷ Ends ∷ [])) None) false [] None)
       (takes_all limit (t_key Table t ∷ t_mark Close m ∷ (words_of_select q ++ (words_of_order y ++ (words_of_window v ++ words_of_ending e))))) ≡ true
   tabled true p t m q y v e low = ended limit q y v e low

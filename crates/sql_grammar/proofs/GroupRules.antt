@@ -8,7 +8,7 @@ use Rattle.sql_grammar.specs.declared.class.Symbol.TheVariants.{Open, Close, Com
 use Rattle.sql_grammar.specs.declared.offered.TheConstants.{READS_DISTINCT, READS_GROUPS, READS_WINDOW}
 use Rattle.sql_grammar.specs.declared.table.Item.{Item}
 use Rattle.sql_grammar.specs.declared.table.Item.TheVariants.{MoreResults, AfterResult, Keyword, Sign, FreeWord, Label, Digits, Ends, MaybeAlias, MoreJoins, MoreGroups, MaybeWhere, AfterQualifier, MaybeOrder, MaybeLimit, MaybeOffset, AfterDistinct, PlainItem, AfterPlain, PlainNext, PlainTail, MoreGroupedItems, Argument, MaybeGroup, MoreGroupColumns}
-use Rattle.sql_grammar.specs.Syntax.{distinct_select, IsOffered, Key, Mark, Col, bare, Output, every, one, Alias, no_alias, relation, Join, Group, group_of, Where, no_where, Select, select_from, Ending, semicolon, text_end, OrderBy, no_order, no_limit, most_rows, no_offset, skipped_rows, Window, window, no_explain, explain, ordered_select, MaybeExplain, unexplained, explained, GroupedItem as ItemTree, plain_item, call, GroupBy, group_by, is_call, has_call, is_written, Holds, IsGrouped, grouped_select, query, grouped}
+use Rattle.sql_grammar.specs.Syntax.{distinct_select, IsOffered, Key, Mark, Col, bare, Output, every, one, Alias, no_alias, relation, Join, Group, group_of, Where, no_where, Select, select_from, Ending, semicolon, text_end, OrderBy, no_order, no_limit, most_rows, no_offset, skipped_rows, WindowTree, window, no_explain, explain, ordered_select, MaybeExplain, unexplained, explained, GroupedItem as ItemTree, plain_item, call, GroupBy, group_by, is_call, has_call, is_written, Holds, IsGrouped, grouped_select, query, grouped}
 use Rattle.sql_grammar.specs.Words.{words_of_output, words_of_outputs, words_of_alias, words_of_joins, words_of_group, words_of_groups, words_of_where, words_of_select, words_of_order, words_of_limit, words_of_offset, words_of_window, words_of_ending, words_of_maybe_explain, words_of_argument, words_of_grouped_item, words_of_grouped_items, words_of_group_by, words_of_group_columns, levels_of_joins, levels_of_groups, levels_of_where, levels_of_select}
 use Rattle.sql_grammar.specs.Table.{takes_of}
 use Rattle.sql_grammar.specs.Machine.{depth_of}
@@ -95,7 +95,7 @@ columns-words : (ts cs y e x : List Terminal) → ((ts ++ cs) ++ (y ++ e)) ++ x 
 columns-words ts cs y e x = simp append_assoc
 
 module _ (limit depth : ℕ) where
-  plain-statement : (x : MaybeExplain) (q : Select) (y : OrderBy) (v : Window) (e : Ending) → levels_of_select q + depth ≤ limit →
+  plain-statement : (x : MaybeExplain) (q : Select) (y : OrderBy) (v : WindowTree) (e : Ending) → levels_of_select q + depth ≤ limit →
       Statement_of limit depth (words_of_maybe_explain x ++ (words_of_select q ++ (words_of_order y ++ (words_of_window v ++ words_of_ending e))))
   plain-statement unexplained q y v e low = (query (ordered_select no_explain q y v e), refl, low)
   plain-statement (explained k) q y v e low = (query (ordered_select (explain k) q y v e), refl, low)

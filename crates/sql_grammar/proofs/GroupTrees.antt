@@ -7,7 +7,7 @@ use Rattle.sql_grammar.specs.Terminals.{Terminal, free, t_key, t_mark, t_name}
 use Rattle.sql_grammar.specs.declared.class.Free.TheVariants.{Distinct}
 use Rattle.sql_grammar.specs.declared.offered.TheConstants.{READS_DISTINCT}
 use Rattle.sql_lex.specs.declared.tokens.Token.{Token}
-use Rattle.sql_grammar.specs.Syntax.{Key, Mark, Col, bare, qualified, Output, every, every_of, one, Group, Where, Select, select_from, Ending, semicolon, text_end, OrderBy, no_order, order_by, no_limit, most_rows, no_offset, skipped_rows, Window, window, no_explain, explain, explain_table, OrderedSelect, ordered_select, MaybeExplain, unexplained, explained, Argument, all_rows, of_col, GroupedItem, plain_item, call, GroupBy, no_group_by, group_by, is_call, has_call, is_written, Holds, IsGrouped, GroupedSelect, distinct_select, grouped_select}
+use Rattle.sql_grammar.specs.Syntax.{Key, Mark, Col, bare, qualified, Output, every, every_of, one, Group, Where, Select, select_from, Ending, semicolon, text_end, OrderBy, no_order, order_by, no_limit, most_rows, no_offset, skipped_rows, WindowTree, window, no_explain, explain, explain_table, OrderedSelect, ordered_select, MaybeExplain, unexplained, explained, Argument, all_rows, of_col, GroupedItem, plain_item, call, GroupBy, no_group_by, group_by, is_call, has_call, is_written, Holds, IsGrouped, GroupedSelect, distinct_select, grouped_select}
 use Rattle.sql_grammar.specs.Unique.{ends_operand}
 use Rattle.sql_grammar.specs.Words.{words_of_col, words_of_output, words_of_select, words_of_order, words_of_window, words_of_ending, words_of_ordered, words_of_maybe_explain, words_of_argument, words_of_grouped_item, words_of_grouped_items, words_of_group_columns, words_of_group_by, words_of_grouped}
 use Rattle.sql_grammar.proofs.ExprTrees.{one_offered, tested}
@@ -109,7 +109,7 @@ end-groupless no_order (semicolon t) = refl
 end-groupless no_order (text_end t) = refl
 end-groupless (order_by k b o os) e = refl
 
-window-groupless : (y : OrderBy) (v : Window) (e : Ending) → groupless (words_of_order y ++ (words_of_window v ++ words_of_ending e)) ≡ true
+window-groupless : (y : OrderBy) (v : WindowTree) (e : Ending) → groupless (words_of_order y ++ (words_of_window v ++ words_of_ending e)) ≡ true
 window-groupless (order_by k b o os) v e = refl
 window-groupless no_order (window (most_rows p k n) u) e = refl
 window-groupless no_order (window no_limit (skipped_rows p k n)) e = refl
@@ -220,7 +220,7 @@ ungrouped no_group_by true none h x y k e = absurd (cc)
 ungrouped no_group_by false none h x y k e = h
 ungrouped (group_by j t d ds) c none h x y k e = tested groupless x (words_of_group_by (group_by j t d ds) ++ y) k refl e
 
-select-apart : (q : Select) (y : OrderBy) (v : Window) (e : Ending) (j : Key) (b : GroupedSelect) →
+select-apart : (q : Select) (y : OrderBy) (v : WindowTree) (e : Ending) (j : Key) (b : GroupedSelect) →
     words_of_select q ++ (words_of_order y ++ (words_of_window v ++ words_of_ending e)) ≡ t_key SelectKey j ∷ words_of_grouped b → ⊥
 select-apart (select_from k o os f g gs w) y v e j (distinct_select a d u us t m ms c z r) h =
     let last : List Terminal = words_of_order y ++ (words_of_window v ++ words_of_ending e) in

@@ -9,7 +9,7 @@ use Rattle.sql_grammar.specs.Syntax.{Mark, Where, no_where, where_expr, Ending, 
 use Rattle.sql_grammar.specs.Words.{words_of_where, words_of_ending, levels_of_where}
 use Rattle.sql_grammar.specs.Syntax.{Direction, no_direction, ascending, descending, NullsEnd, no_nulls_end, nulls_first, nulls_last}
 use Rattle.sql_grammar.specs.Words.{words_of_direction, words_of_nulls_end}
-use Rattle.sql_grammar.specs.Syntax.{IsClassName, no_class, op_class, IndexKey, index_key, Using, no_using, using_method, Include, no_include, include_columns, CreateIndex, index_on, Cand, cand_on}
+use Rattle.sql_grammar.specs.Syntax.{IsClassName, no_class, op_class, KeyTree, index_key, Using, no_using, using_method, Include, no_include, include_columns, CreateIndex, index_on, Cand, cand_on}
 use Rattle.sql_grammar.specs.Words.{words_of_key, words_of_keys, words_of_using, words_of_names, words_of_include, words_of_index, words_of_cand, levels_of_index, levels_of_cand}
 use Rattle.sql_grammar.specs.Machine.{depth_of, takes_all}
 use Rattle.sql_grammar.proofs.Complete.{Passes, EndsExpr, skip, apart, condition, ending}
@@ -28,7 +28,7 @@ after-column no_direction (nulls_last n l) ts p = refl
 after-column (ascending k) z ts p = refl
 after-column (descending k) z ts p = refl
 
-after-key : (ks : List (Mark × IndexKey)) (m : Mark) (ts : List Terminal) → EndsKey (words_of_keys ks ++ t_mark Close m ∷ ts)
+after-key : (ks : List (Mark × KeyTree)) (m : Mark) (ts : List Terminal) → EndsKey (words_of_keys ks ++ t_mark Close m ∷ ts)
 after-key [] m ts = record { op_class = refl; direction = refl; nulls = refl }
 after-key (k ∷ ks) m ts = record { op_class = refl; direction = refl; nulls = refl }
 
@@ -55,7 +55,7 @@ module _ (limit : ℕ) where
   named (free Nulls k) p s ts = absurd p
   named _ p s ts = refl
 
-  key : (x : IndexKey) (s : List Item) (ts : List Terminal) → EndsKey ts →
+  key : (x : KeyTree) (s : List Item) (ts : List Terminal) → EndsKey ts →
       takes_all limit (words_of_key x ++ ts) (Label ∷ MaybeClass ∷ MaybeDirection ∷ MaybeNulls ∷ s) ≡ takes_all limit ts s
   key (index_key n no_class d z) s ts p =
       skip limit MaybeClass (MaybeDirection ∷ MaybeNulls ∷ s) ((words_of_direction d ++ words_of_nulls_end z) ++ ts) refl (after-column d z ts p.op_class) ∙
@@ -63,7 +63,7 @@ module _ (limit : ℕ) where
   key (index_key n (op_class c named') d z) s ts p =
       named c named' (MaybeDirection ∷ MaybeNulls ∷ s) ((words_of_direction d ++ words_of_nulls_end z) ++ ts) ∙ sorted limit d z s ts p.direction p.nulls
 
-  keys : (x : IndexKey) (xs : List (Mark × IndexKey)) (m : Mark) (s : List Item) (ts : List Terminal) →
+  keys : (x : KeyTree) (xs : List (Mark × KeyTree)) (m : Mark) (s : List Item) (ts : List Terminal) →
       takes_all limit (words_of_key x ++ (words_of_keys xs ++ t_mark Close m ∷ ts)) (Label ∷ MaybeClass ∷ MaybeDirection ∷ MaybeNulls ∷ MoreKeys ∷ s) ≡ takes_all limit ts s
   keys x [] m s ts = key x (MoreKeys ∷ s) (t_mark Close m ∷ ts) (after-key [] m ts)
   keys x ((c, y) ∷ ys) m s ts =
@@ -83,7 +83,7 @@ module _ (limit : ℕ) where
   include (include_columns k o n ns m) s ts p = apart limit (words_of_names ns) (t_mark Close m ∷ []) ts (MoreNames ∷ s) ∙ names ns m s ts
 
   -- from the method on
-  behind : (u : Using) (p : Mark) (x : IndexKey) (xs : List (Mark × IndexKey)) (m : Mark) (c : Include) (w : Where) (s : List Item) (ts : List Terminal) →
+  behind : (u : Using) (p : Mark) (x : KeyTree) (xs : List (Mark × KeyTree)) (m : Mark) (c : Include) (w : Where) (s : List Item) (ts : List Terminal) →
       levels_of_where w + depth_of s ≤ limit → EndsCand ts →
       takes_all limit (words_of_using u ++ t_mark Open p ∷ (words_of_key x ++ (words_of_keys xs ++ t_mark Close m ∷ (words_of_include c ++ (words_of_where w ++ ts)))))
       (MaybeUsing ∷ Sign Open ∷ Label ∷ MaybeClass ∷ MaybeDirection ∷ MaybeNulls ∷ MoreKeys ∷ MaybeInclude ∷ MaybeWhere ∷ s) ≡ takes_all limit ts s

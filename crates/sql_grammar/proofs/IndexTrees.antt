@@ -7,7 +7,7 @@ use Rattle.sql_grammar.specs.declared.class.Symbol.TheVariants.{Open, Close, Com
 use Rattle.sql_grammar.specs.Terminals.{Terminal, Ident, free, t_key, t_mark, t_name, t_operator}
 use Rattle.sql_grammar.specs.Syntax.{Mark, Where, no_where, where_expr, Ending, semicolon, text_end}
 use Rattle.sql_grammar.specs.Syntax.{Direction, no_direction, ascending, descending, NullsEnd, no_nulls_end, nulls_first, nulls_last}
-use Rattle.sql_grammar.specs.Syntax.{IsClassName, OpClass, no_class, op_class, IndexKey, index_key, Using, no_using, using_method, Include, no_include, include_columns, CreateIndex, index_on, Cand, cand_on}
+use Rattle.sql_grammar.specs.Syntax.{IsClassName, ClassTree, no_class, op_class, KeyTree, index_key, Using, no_using, using_method, Include, no_include, include_columns, CreateIndex, index_on, Cand, cand_on}
 use Rattle.sql_grammar.specs.Words.{words_of_where, words_of_ending}
 use Rattle.sql_grammar.specs.Words.{words_of_direction, words_of_nulls_end}
 use Rattle.sql_grammar.specs.Words.{words_of_class, words_of_key, words_of_keys, words_of_using, words_of_names, words_of_include, words_of_index, words_of_cand}
@@ -35,7 +35,7 @@ one_class_name _ p q = refl
 same_class : (n m : Ident) → n ≡ m → (p : IsClassName n) (q : IsClassName m) → op_class n p ≡ op_class m q
 same_class n m e p = subst (λ k. (q : IsClassName k) → op_class n p ≡ op_class k q) e (λ q. ap (op_class n) (one_class_name n p q))
 
-one_class : (a b : OpClass) (x y : List Terminal) → ends_class x ≡ true → ends_class y ≡ true → words_of_class a ++ x ≡ words_of_class b ++ y → (a ≡ b) × (x ≡ y)
+one_class : (a b : ClassTree) (x y : List Terminal) → ends_class x ≡ true → ends_class y ≡ true → words_of_class a ++ x ≡ words_of_class b ++ y → (a ≡ b) × (x ≡ y)
 one_class no_class no_class x y h k e = (refl, e)
 one_class no_class (op_class m q) x y h k e = absurd (tested ends_class x (t_name m ∷ y) h (class-first m q y) e)
 one_class (op_class n p) no_class x y h k e = absurd (tested ends_class y (t_name n ∷ x) k (class-first n p x) (sym e))
@@ -59,7 +59,7 @@ key-class no_direction (nulls_last n l) x h = refl
 key-class (ascending k) z x h = refl
 key-class (descending k) z x h = refl
 
-one_key : (a b : IndexKey) (x y : List Terminal) → ends_key x ≡ true → ends_key y ≡ true → words_of_key a ++ x ≡ words_of_key b ++ y → (a ≡ b) × (x ≡ y)
+one_key : (a b : KeyTree) (x y : List Terminal) → ends_key x ≡ true → ends_key y ≡ true → words_of_key a ++ x ≡ words_of_key b ++ y → (a ≡ b) × (x ≡ y)
 one_key (index_key n c d z) (index_key m b f v) x y h k e =
     let name : n ≡ m = cc (e) in
     let (class', more) = one_class c b ((words_of_direction d ++ words_of_nulls_end z) ++ x) ((words_of_direction f ++ words_of_nulls_end v) ++ y) (key-class d z x h) (key-class f v y k)
@@ -68,15 +68,15 @@ one_key (index_key n c d z) (index_key m b f v) x y h k e =
     (cc (name, class', direction, end), rest)
 
 -- further keys and what closes them
-abbrev closed : List (Mark × IndexKey) → Mark → List Terminal → List Terminal
+abbrev closed : List (Mark × KeyTree) → Mark → List Terminal → List Terminal
 closed ks m x = words_of_keys ks ++ t_mark Close m ∷ x
 
-closed-ends : (ks : List (Mark × IndexKey)) (m : Mark) (x : List Terminal) → ends_key (closed ks m x) ≡ true
+closed-ends : (ks : List (Mark × KeyTree)) (m : Mark) (x : List Terminal) → ends_key (closed ks m x) ≡ true
 closed-ends [] m x = refl
 closed-ends ((t, k) ∷ ks) m x = refl
 
-one_keys : (ks us : List (Mark × IndexKey)) (m n : Mark) (x y : List Terminal) → closed ks m x ≡ closed us n y → (ks ≡ us) × (m ≡ n) × (x ≡ y)
-one_keys = one_list IndexKey words_of_key words_of_keys (t_mark Close) ends_key (λ m x. refl)
+one_keys : (ks us : List (Mark × KeyTree)) (m n : Mark) (x y : List Terminal) → closed ks m x ≡ closed us n y → (ks ≡ us) × (m ≡ n) × (x ≡ y)
+one_keys = one_list KeyTree words_of_key words_of_keys (t_mark Close) ends_key (λ m x. refl)
     (λ t k ks m x. ap (λ l. t_mark Comma t ∷ l) (append_assoc (words_of_key k) (words_of_keys ks) (t_mark Close m ∷ x)))
     (λ m n x y e. cc (e)) (λ m t x y e. absurd (cc (e))) closed-ends one_key
 
@@ -145,11 +145,11 @@ one_behind a b v w x y h k e =
     (include, condition, rest)
 
 -- what follows a table's name, before other words
-abbrev listed : Using → Mark → IndexKey → List (Mark × IndexKey) → Mark → Include → Where → List Terminal → List Terminal
+abbrev listed : Using → Mark → KeyTree → List (Mark × KeyTree) → Mark → Include → Where → List Terminal → List Terminal
 listed u p a ks m c w x = words_of_using u ++ t_mark Open p ∷ (words_of_key a ++ closed ks m (behind c w x))
 
 -- two of these lists have the same parts
-record Alike (u z : Using) (p d : Mark) (a b : IndexKey) (ks bs : List (Mark × IndexKey)) (m n : Mark) (c g : Include) (v w : Where) (x y : List Terminal) : Type 0 where
+record Alike (u z : Using) (p d : Mark) (a b : KeyTree) (ks bs : List (Mark × KeyTree)) (m n : Mark) (c g : Include) (v w : Where) (x y : List Terminal) : Type 0 where
   using : u ≡ z
   opens : p ≡ d
   key : a ≡ b
@@ -159,7 +159,7 @@ record Alike (u z : Using) (p d : Mark) (a b : IndexKey) (ks bs : List (Mark × 
   condition : v ≡ w
   rest : x ≡ y
 
-one_listed : (u z : Using) (p d : Mark) (a b : IndexKey) (ks bs : List (Mark × IndexKey)) (m n : Mark) (c g : Include) (v w : Where) (x y : List Terminal) → ends_cand x ≡ true → ends_cand y ≡ true →
+one_listed : (u z : Using) (p d : Mark) (a b : KeyTree) (ks bs : List (Mark × KeyTree)) (m n : Mark) (c g : Include) (v w : Where) (x y : List Terminal) → ends_cand x ≡ true → ends_cand y ≡ true →
     listed u p a ks m c v x ≡ listed z d b bs n g w y → Alike u z p d a b ks bs m n c g v w x y
 one_listed u z p d a b ks bs m n c g v w x y h k e =
     let (using, opens, keys) = one_using u z p d (words_of_key a ++ closed ks m (behind c v x)) (words_of_key b ++ closed bs n (behind g w y)) e in

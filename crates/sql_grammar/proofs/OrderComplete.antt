@@ -3,7 +3,7 @@ use Rattle.std.proofs.Common.{◌≡◌, ℕ, ◌+◌, ◌≤◌, true, List, []
 use Rattle.sql_grammar.specs.Terminals.{Terminal}
 use Rattle.sql_grammar.specs.declared.table.Item.{Item}
 use Rattle.sql_grammar.specs.declared.table.Item.TheVariants.{Label, Ends, Query, AfterQualifier, MaybeDirection, MaybeNulls, MaybeOrder, MoreOrderings, MaybeLimit, MaybeOffset}
-use Rattle.sql_grammar.specs.Syntax.{Mark, bare, qualified, Select, Ending, Window}
+use Rattle.sql_grammar.specs.Syntax.{Mark, bare, qualified, Select, Ending, WindowTree}
 use Rattle.sql_grammar.specs.Words.{words_of_select, words_of_window, words_of_ending, levels_of_select}
 use Rattle.sql_grammar.specs.Syntax.{Direction, no_direction, ascending, descending, NullsEnd, no_nulls_end, nulls_first, nulls_last, Ordering, ordering, OrderBy, no_order, order_by, WindowedSelect, windowed_select}
 use Rattle.sql_grammar.specs.Words.{words_of_direction, words_of_nulls_end, words_of_ordering, words_of_orderings, words_of_order, words_of_windowed, levels_of_windowed}
@@ -75,7 +75,7 @@ module _ (limit : ℕ) where
   after-select (order_by k b o os) ts p = record { alias = refl; joins = refl; groups = refl; condition = refl; expr = record { conj = record { atom = refl; ands = refl }; ors = refl } }
 
   -- a SELECT with its order and its window, in parts
-  rest : (q : Select) (y : OrderBy) (v : Window) (s : List Item) (ts : List Terminal) → levels_of_select q + depth_of s ≤ limit → EndsWindow ts →
+  rest : (q : Select) (y : OrderBy) (v : WindowTree) (s : List Item) (ts : List Terminal) → levels_of_select q + depth_of s ≤ limit → EndsWindow ts →
       takes_all limit (words_of_select q ++ (words_of_order y ++ (words_of_window v ++ ts))) (Query ∷ MaybeOrder ∷ MaybeLimit ∷ MaybeOffset ∷ s) ≡ takes_all limit ts s
   rest q y v s ts low ends =
       let last : List Terminal = words_of_window v ++ ts in
@@ -97,6 +97,6 @@ module _ (limit : ℕ) where
       windowed-select x [] [] (omega (arith, low)) nothing-window
 
   -- up to a statement's end
-  pub ended : (q : Select) (y : OrderBy) (v : Window) (e : Ending) → levels_of_select q ≤ limit →
+  pub ended : (q : Select) (y : OrderBy) (v : WindowTree) (e : Ending) → levels_of_select q ≤ limit →
       takes_all limit (words_of_select q ++ (words_of_order y ++ (words_of_window v ++ words_of_ending e))) (Query ∷ MaybeOrder ∷ MaybeLimit ∷ MaybeOffset ∷ Ends ∷ []) ≡ true
   ended q y v e low = rest q y v (Ends ∷ []) (words_of_ending e) (omega (arith, low)) (ending-window e) ∙ ending limit e

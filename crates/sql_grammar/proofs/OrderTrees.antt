@@ -6,7 +6,7 @@ use Rattle.sql_grammar.specs.declared.class.Free.TheVariants.{Nulls}
 use Rattle.sql_grammar.specs.declared.class.Symbol.TheVariants.{Close, Comma, Dot}
 use Rattle.sql_grammar.specs.declared.offered.TheConstants.{READS_TABLE}
 use Rattle.sql_grammar.specs.Terminals.{Terminal, free, t_key, t_mark, t_name, t_semicolon, t_end}
-use Rattle.sql_grammar.specs.Syntax.{Mark, Col, column, Select, select_from, no_limit, most_rows, no_offset, skipped_rows, Window, window, Ending, semicolon, text_end}
+use Rattle.sql_grammar.specs.Syntax.{Mark, Col, column, Select, select_from, no_limit, most_rows, no_offset, skipped_rows, WindowTree, window, Ending, semicolon, text_end}
 use Rattle.sql_grammar.specs.Syntax.{Direction, no_direction, ascending, descending, NullsEnd, no_nulls_end, nulls_first, nulls_last, Ordering, ordering, OrderBy, no_order, order_by, WindowedSelect, windowed_select, no_explain, explain, explain_table, OrderedSelect, ordered_select}
 use Rattle.sql_grammar.specs.Unique.{ends_operand, ends_windowed}
 use Rattle.sql_grammar.specs.Words.{words_of_col, words_of_select, words_of_window, words_of_ending}
@@ -158,7 +158,7 @@ windowed-order (t_semicolon _ ∷ _) h = record { order = refl; none = refl; sel
 windowed-order (t_end _ ∷ _) h = record { order = refl; none = refl; select = refl }
 windowed-order _ h = absurd (cc)
 
-pub window-ends : (w : Window) (x : List Terminal) → ends_windowed x ≡ true → EndsOrder (words_of_window w ++ x)
+pub window-ends : (w : WindowTree) (x : List Terminal) → ends_windowed x ≡ true → EndsOrder (words_of_window w ++ x)
 window-ends (window (most_rows p k n) o) x h = record { order = refl; none = refl; select = refl }
 window-ends (window no_limit (skipped_rows p k n)) x h = record { order = refl; none = refl; select = refl }
 window-ends (window no_limit no_offset) x h = windowed-order x h
@@ -188,7 +188,7 @@ one_sorted p q a b x y h k e =
     (first, order, rest)
 
 -- a SELECT with its order and its window
-one_rest : (p q : Select) (a b : OrderBy) (v w : Window) (x y : List Terminal) → ends_windowed x ≡ true → ends_windowed y ≡ true →
+one_rest : (p q : Select) (a b : OrderBy) (v w : WindowTree) (x y : List Terminal) → ends_windowed x ≡ true → ends_windowed y ≡ true →
     words_of_select p ++ (words_of_order a ++ (words_of_window v ++ x)) ≡ words_of_select q ++ (words_of_order b ++ (words_of_window w ++ y)) → (p ≡ q) × (a ≡ b) × (v ≡ w) × (x ≡ y)
 one_rest p q a b v w x y h k e =
     let (first, order, more) = one_sorted p q a b (words_of_window v ++ x) (words_of_window w ++ y) (window-ends v x h) (window-ends w y k) e in
@@ -205,7 +205,7 @@ pub ending-windowed : (e : Ending) → ends_windowed (words_of_ending e) ≡ tru
 ending-windowed (semicolon t) = refl
 ending-windowed (text_end t) = refl
 
-one_ended : (p q : Select) (a b : OrderBy) (v w : Window) (e f : Ending) →
+one_ended : (p q : Select) (a b : OrderBy) (v w : WindowTree) (e f : Ending) →
     words_of_select p ++ (words_of_order a ++ (words_of_window v ++ words_of_ending e)) ≡ words_of_select q ++ (words_of_order b ++ (words_of_window w ++ words_of_ending f)) → (p ≡ q) × (a ≡ b) × (v ≡ w) × (e ≡ f)
 one_ended p q a b v w e f h =
     let (first, order, rows, rest) = one_rest p q a b v w (words_of_ending e) (words_of_ending f) (ending-windowed e) (ending-windowed f) h in

@@ -5,7 +5,7 @@ use Rattle.sql_lex.specs.declared.tokens.Token.{Token}
 use Rattle.sql_grammar.specs.declared.class.Free.TheVariants.{Common as CommonWord, Histogram as HistogramWord}
 use Rattle.sql_grammar.specs.declared.class.Symbol.TheVariants.{Open, Close, Comma}
 use Rattle.sql_grammar.specs.Terminals.{Terminal, free, t_mark, t_name, t_number}
-use Rattle.sql_grammar.specs.Syntax.{Mark, Lit, literal, Share, share, Common, no_common, common, Histogram, no_histogram, histogram}
+use Rattle.sql_grammar.specs.Syntax.{Mark, Lit, literal, Share, share, CommonPart, no_common, common, Histogram, no_histogram, histogram}
 use Rattle.sql_grammar.specs.Unique.{ends_operand}
 use Rattle.sql_grammar.specs.Words.{words_of_lit, words_of_share, words_of_shares, words_of_common, words_of_bounds, words_of_histogram}
 use Rattle.sql_grammar.proofs.ListLemmas.{one_list}
@@ -43,7 +43,7 @@ common-words k o s ss m x =
     ap (λ l. t_name (free CommonWord k) ∷ t_mark Open o ∷ l)
     (append_assoc (words_of_share s) (words_of_shares ss ++ t_mark Close m ∷ []) x ∙ ap (λ l. words_of_share s ++ l) (append_assoc (words_of_shares ss) (t_mark Close m ∷ []) x))
 
-pub one_common : (a b : Common) (x y : List Terminal) → ends_common x ≡ true → ends_common y ≡ true → words_of_common a ++ x ≡ words_of_common b ++ y → (a ≡ b) × (x ≡ y)
+pub one_common : (a b : CommonPart) (x y : List Terminal) → ends_common x ≡ true → ends_common y ≡ true → words_of_common a ++ x ≡ words_of_common b ++ y → (a ≡ b) × (x ≡ y)
 one_common no_common no_common x y h k e = (refl, e)
 one_common no_common (common j o s ss m) x y h k e = absurd (tested ends_common x (words_of_common (common j o s ss m) ++ y) h refl e)
 one_common (common i o s ss m) no_common x y h k e = absurd (tested ends_common y (words_of_common (common i o s ss m) ++ x) k refl (sym e))

@@ -7,7 +7,7 @@ use Rattle.sql_grammar.specs.declared.class.Class.TheVariants.{Key}
 use Rattle.sql_grammar.specs.declared.offered.TheConstants.{READS_WINDOW}
 use Rattle.sql_grammar.specs.declared.table.Item.{Item}
 use Rattle.sql_grammar.specs.declared.table.Item.TheVariants.{Digits, AfterQualifier, MaybeDirection, MaybeNulls, MaybeLimit, MaybeOffset, MaybeOrder, MoreOrderings}
-use Rattle.sql_grammar.specs.Syntax.{Mark, IsOffered, Limit, no_limit, most_rows, Offset, no_offset, skipped_rows, Window, window, Ending, semicolon, text_end}
+use Rattle.sql_grammar.specs.Syntax.{Mark, IsOffered, LimitTree, no_limit, most_rows, Offset, no_offset, skipped_rows, WindowTree, window, Ending, semicolon, text_end}
 use Rattle.sql_grammar.specs.Words.{words_of_limit, words_of_offset, words_of_window, words_of_ending}
 use Rattle.sql_grammar.specs.Machine.{by_row, step_of, takes_then, takes_all}
 use Rattle.sql_grammar.proofs.Complete.{Passes, EndsSelect, skip, apart, after-query}
@@ -27,7 +27,7 @@ pub record EndsWindow (ts : List Terminal) : Type 0 where
   pub most : Passes MaybeLimit ts
   pub skipped : Passes MaybeOffset ts
 
-pub window-order : (w : Window) (ts : List Terminal) → EndsWindow ts → EndsOrder (words_of_window w ++ ts)
+pub window-order : (w : WindowTree) (ts : List Terminal) → EndsWindow ts → EndsOrder (words_of_window w ++ ts)
 window-order (window (most_rows p k n) o) ts ends = record {
   qualifier = refl;
   direction = refl;
@@ -93,7 +93,7 @@ module _ (limit : ℕ) where
   numbered true p n s ts below = refl
   numbered false p n s ts below = absurd p
 
-  most : (l : Limit) (s : List Item) (ts : List Terminal) → Passes MaybeLimit ts → takes_all limit (words_of_limit l ++ ts) (MaybeLimit ∷ s) ≡ takes_all limit ts s
+  most : (l : LimitTree) (s : List Item) (ts : List Terminal) → Passes MaybeLimit ts → takes_all limit (words_of_limit l ++ ts) (MaybeLimit ∷ s) ≡ takes_all limit ts s
   most no_limit s ts p = skip limit MaybeLimit s ts refl p
   most (most_rows p k n) s ts q = numbered READS_WINDOW p n s ts (step_of limit (Key LimitKey) s)
 
@@ -105,7 +105,7 @@ module _ (limit : ℕ) where
   after-limit no_offset ts p = p
   after-limit (skipped_rows p k n) ts q = refl
 
-  pub windowed : (w : Window) (ts : List Terminal) (s : List Item) → EndsWindow ts → takes_all limit (words_of_window w ++ ts) (MaybeLimit ∷ MaybeOffset ∷ s) ≡ takes_all limit ts s
+  pub windowed : (w : WindowTree) (ts : List Terminal) (s : List Item) → EndsWindow ts → takes_all limit (words_of_window w ++ ts) (MaybeLimit ∷ MaybeOffset ∷ s) ≡ takes_all limit ts s
   windowed (window l o) ts s ends =
       apart limit (words_of_limit l) (words_of_offset o) ts (MaybeLimit ∷ MaybeOffset ∷ s) ∙
       (most l (MaybeOffset ∷ s) (words_of_offset o ++ ts) (after-limit o ts ends.most) ∙ skipped o s ts ends.skipped)

@@ -4,7 +4,7 @@ use Rattle.std.proofs.lemmas.List.{append_assoc}
 use Rattle.sql_grammar.specs.declared.class.Word.TheVariants.{Limit as LimitKey, Offset as OffsetKey}
 use Rattle.sql_grammar.specs.declared.offered.TheConstants.{READS_WINDOW}
 use Rattle.sql_grammar.specs.Terminals.{Terminal, t_key}
-use Rattle.sql_grammar.specs.Syntax.{Limit, no_limit, most_rows, Offset, no_offset, skipped_rows, Window, window}
+use Rattle.sql_grammar.specs.Syntax.{LimitTree, no_limit, most_rows, Offset, no_offset, skipped_rows, WindowTree, window}
 use Rattle.sql_grammar.specs.Words.{words_of_limit, words_of_offset, words_of_window}
 use Rattle.sql_grammar.specs.Unique.{ends_windowed}
 use Rattle.sql_grammar.proofs.ExprTrees.{one_offered, tested}
@@ -19,7 +19,7 @@ abbrev offsetless : List Terminal → Bool
 offsetless (t_key OffsetKey _ ∷ _) = false
 offsetless _ = true
 
-one_limit : (a b : Limit) (x y : List Terminal) → limitless x ≡ true → limitless y ≡ true → words_of_limit a ++ x ≡ words_of_limit b ++ y → (a ≡ b) × (x ≡ y)
+one_limit : (a b : LimitTree) (x y : List Terminal) → limitless x ≡ true → limitless y ≡ true → words_of_limit a ++ x ≡ words_of_limit b ++ y → (a ≡ b) × (x ≡ y)
 one_limit no_limit no_limit x y h k e = (refl, e)
 one_limit no_limit (most_rows q j m) x y h k e = absurd (tested limitless x (words_of_limit (most_rows q j m) ++ y) h refl e)
 one_limit (most_rows p i n) no_limit x y h k e = absurd (tested limitless y (words_of_limit (most_rows p i n) ++ x) k refl (sym e))
@@ -48,7 +48,7 @@ windowed-limit no_offset (t_key LimitKey _ ∷ _) h = absurd (cc)
 windowed-limit no_offset _ h = refl
 windowed-limit (skipped_rows p k n) x h = refl
 
-pub one_window : (v w : Window) (x y : List Terminal) → ends_windowed x ≡ true → ends_windowed y ≡ true → words_of_window v ++ x ≡ words_of_window w ++ y → (v ≡ w) × (x ≡ y)
+pub one_window : (v w : WindowTree) (x y : List Terminal) → ends_windowed x ≡ true → ends_windowed y ≡ true → words_of_window v ++ x ≡ words_of_window w ++ y → (v ≡ w) × (x ≡ y)
 one_window (window l o) (window m u) x y h k e =
     let (most, more) = one_limit l m (words_of_offset o ++ x) (words_of_offset u ++ y) (windowed-limit o x h) (windowed-limit u y k)
     (sym (append_assoc (words_of_limit l) (words_of_offset o) x) ∙ (e ∙ append_assoc (words_of_limit m) (words_of_offset u) y)) in

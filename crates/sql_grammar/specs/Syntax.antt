@@ -38,9 +38,9 @@ pub data Lit : Type 0 where
   constant : Constant → Key → Lit
 
 -- operand = col | lit
-pub data Operand : Type 0 where
-  column : Col → Operand
-  literal : Lit → Operand
+pub data OperandTree : Type 0 where
+  column : Col → OperandTree
+  literal : Lit → OperandTree
 
 -- [NOT], before IN or BETWEEN
 pub data Negated : Type 0 where
@@ -75,11 +75,11 @@ mutual
   --      | operand [NOT] BETWEEN operand AND operand | col | TRUE | FALSE | NULL
   pub data Atom : Type 0 where
     parens : Mark → Expr → Mark → Atom
-    compare : Operand → Said → Operand → Atom
+    compare : OperandTree → Said → OperandTree → Atom
     is_null : Col → Key → Key → Atom
     is_not_null : Col → Key → Key → Key → Atom
     in_list : IsOffered READS_LISTS → Col → Negated → Token → Mark → Lit → List (Mark × Lit) → Mark → Atom
-    between : IsOffered READS_LISTS → Operand → Negated → Token → Operand → Key → Operand → Atom
+    between : IsOffered READS_LISTS → OperandTree → Negated → Token → OperandTree → Key → OperandTree → Atom
     column_alone : Col → Atom
     constant_alone : Constant → Key → Atom
 
@@ -168,9 +168,9 @@ pub data OrderBy : Type 0 where
   order_by : Key → Token → Ordering → List (Mark × Ordering) → OrderBy
 
 -- [LIMIT number]
-pub data Limit : Type 0 where
-  no_limit : Limit
-  most_rows : IsOffered READS_WINDOW → Key → Said → Limit
+pub data LimitTree : Type 0 where
+  no_limit : LimitTree
+  most_rows : IsOffered READS_WINDOW → Key → Said → LimitTree
 
 -- [OFFSET number]
 pub data Offset : Type 0 where
@@ -178,12 +178,12 @@ pub data Offset : Type 0 where
   skipped_rows : IsOffered READS_WINDOW → Key → Said → Offset
 
 -- window = [LIMIT number] [OFFSET number]
-pub data Window : Type 0 where
-  window : Limit → Offset → Window
+pub data WindowTree : Type 0 where
+  window : LimitTree → Offset → WindowTree
 
 -- select [ORDER BY ord { "," ord }] window
 pub data WindowedSelect : Type 0 where
-  windowed_select : Select → OrderBy → Window → WindowedSelect
+  windowed_select : Select → OrderBy → WindowTree → WindowedSelect
 
 -- [EXPLAIN ["(" TABLE ")"]]
 pub data Explaining : Type 0 where
@@ -193,7 +193,7 @@ pub data Explaining : Type 0 where
 
 -- ordered = [EXPLAIN ["(" TABLE ")"]] select [ORDER BY ord { "," ord }] window end
 pub data OrderedSelect : Type 0 where
-  ordered_select : Explaining → Select → OrderBy → Window → Ending → OrderedSelect
+  ordered_select : Explaining → Select → OrderBy → WindowTree → Ending → OrderedSelect
 
 -- [EXPLAIN]
 pub data MaybeExplain : Type 0 where
@@ -252,13 +252,13 @@ IsClassName (free NullsWord _) = ⊥
 IsClassName _ = Unit {0}
 
 -- [name], an operator class
-pub data OpClass : Type 0 where
-  no_class : OpClass
-  op_class : (n : Ident) → IsClassName n → OpClass
+pub data ClassTree : Type 0 where
+  no_class : ClassTree
+  op_class : (n : Ident) → IsClassName n → ClassTree
 
 -- key = name [name] [ASC | DESC] [NULLS FIRST | NULLS LAST]
-pub data IndexKey : Type 0 where
-  index_key : Ident → OpClass → Direction → NullsEnd → IndexKey
+pub data KeyTree : Type 0 where
+  index_key : Ident → ClassTree → Direction → NullsEnd → KeyTree
 
 -- [USING name]
 pub data Using : Type 0 where
@@ -272,12 +272,12 @@ pub data Include : Type 0 where
 
 -- index = CREATE INDEX name ON name [USING name] "(" key { "," key } ")" [INCLUDE "(" name { "," name } ")"] [WHERE expr] end
 pub data CreateIndex : Type 0 where
-  index_on : Key → Token → Ident → Key → Ident → Using → Mark → IndexKey → List (Mark × IndexKey) → Mark → Include → Where → Ending → CreateIndex
+  index_on : Key → Token → Ident → Key → Ident → Using → Mark → KeyTree → List (Mark × KeyTree) → Mark → Include → Where → Ending → CreateIndex
 
 -- cand = name ON name [USING name] "(" key { "," key } ")" [INCLUDE "(" name { "," name } ")"] [WHERE expr]: CREATE INDEX without
 -- its first two words and its end
 pub data Cand : Type 0 where
-  cand_on : Ident → Key → Ident → Using → Mark → IndexKey → List (Mark × IndexKey) → Mark → Include → Where → Cand
+  cand_on : Ident → Key → Ident → Using → Mark → KeyTree → List (Mark × KeyTree) → Mark → Include → Where → Cand
 
 -- advised = "(" select [ORDER BY ord { "," ord }] window ")"
 pub data Advised : Type 0 where
@@ -292,9 +292,9 @@ pub data Share : Type 0 where
   share : Lit → Said → Share
 
 -- [COMMON "(" lit number { "," lit number } ")"]
-pub data Common : Type 0 where
-  no_common : Common
-  common : Token → Mark → Share → List (Mark × Share) → Mark → Common
+pub data CommonPart : Type 0 where
+  no_common : CommonPart
+  common : Token → Mark → Share → List (Mark × Share) → Mark → CommonPart
 
 -- [HISTOGRAM "(" lit { "," lit } ")"]
 pub data Histogram : Type 0 where
@@ -344,7 +344,7 @@ pub data Statement : Type 0 where
   query : OrderedSelect → Statement
   copy : CopyWords → Ident → Said → Statement
   sizes : SizesWords → Ident → Said → Said → Ending → Statement
-  column_statistics : ColumnWords → Ident → Ident → Said → Said → Common → Histogram → Ending → Statement
+  column_statistics : ColumnWords → Ident → Ident → Said → Said → CommonPart → Histogram → Ending → Statement
   analyze : IsOffered READS_ANALYZE → Token → Ident → Ending → Statement
   advise : Advise → Statement
   check : IsOffered READS_CHECK → Token → WindowedSelect → Token → Statement

@@ -7,7 +7,7 @@ use Rattle.sql_grammar.specs.declared.class.Free.TheVariants.{Between, In}
 use Rattle.sql_grammar.specs.declared.class.Word.TheVariants.{And, Is, Not, Null, Or}
 use Rattle.sql_grammar.specs.declared.class.Symbol.TheVariants.{Close, Comma, Dot, Open}
 use Rattle.sql_grammar.specs.Terminals.{Terminal, free, token_of, t_key, t_mark, t_name, t_number, t_quoted, t_operator, t_semicolon, t_end}
-use Rattle.sql_grammar.specs.Syntax.{unknown, constant, Operand, column, literal, Atom, parens, compare, is_null, is_not_null, in_list, between, column_alone, constant_alone}
+use Rattle.sql_grammar.specs.Syntax.{unknown, constant, OperandTree, column, literal, Atom, parens, compare, is_null, is_not_null, in_list, between, column_alone, constant_alone}
 use Rattle.sql_grammar.specs.Words.{words_of_bounds, words_of_lit, words_of_negated, words_of_operand}
 use Rattle.sql_grammar.specs.Faults.{Production, terminals, AreWithinLimits, IsPartEnd}
 
@@ -83,7 +83,7 @@ is_parens (parens o e c) = true
 is_parens _ = false
 
 -- the operand with which an atom without parentheses begins; of one in parentheses it is never asked
-abbrev pub front : Atom → Operand
+abbrev pub front : Atom → OperandTree
 front (parens o e c) = literal (constant unknown o)
 front (compare l op r) = l
 front (is_null c i k) = column c

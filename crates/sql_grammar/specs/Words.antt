@@ -7,7 +7,7 @@ use Rattle.sql_grammar.specs.declared.class.Free.TheVariants.{Advise as AdviseWo
 use Rattle.sql_grammar.specs.declared.class.Word.{Word}
 use Rattle.sql_grammar.specs.declared.class.Word.TheVariants.{And, As, Asc, Create, Cross, Desc, False, From, Group as GroupKey, Inner as InnerKey, Is, Join as JoinKey, Limit as LimitKey, Not, Null, Offset as OffsetKey, On, Or, Order, Select, Table, True, Using as UsingKey, Where as WhereKey, With}
 use Rattle.sql_grammar.specs.declared.class.Symbol.TheVariants.{Open, Close, Comma, Dot, Minus, Star}
-use Rattle.sql_grammar.specs.Syntax.{Col, bare, qualified, Constant, yes, no, unknown, Lit, number, negative, quoted, constant, Operand, column, literal, Expr, either_of, Ors, no_or, or_conj, Conj, both_of, Ands, no_and, and_neg, Negated, no_not, not_before, Neg, negated, plain, Atom, parens, compare, is_null, is_not_null, in_list, between, column_alone, constant_alone, Nulls, unwritten, not_null, nullable, ColDef, coldef, Output, every, every_of, one, Alias, no_alias, bare_alias, as_alias, Relation, relation, Inner, no_inner, inner, Join, join_on, cross_join, Group, group_of, Select as SelectTree, select_from, Where, no_where, where_expr, Share, share, Common, no_common, common, Histogram, no_histogram, histogram, Ending, semicolon, text_end, Direction, no_direction, ascending, descending, NullsEnd, no_nulls_end, nulls_first, nulls_last, Ordering, ordering, OrderBy, no_order, order_by, Limit, no_limit, most_rows, Offset, no_offset, skipped_rows, Window, window, WindowedSelect, windowed_select, Explaining, no_explain, explain, explain_table, OrderedSelect, ordered_select, MaybeExplain, unexplained, explained, Argument, all_rows, of_col, GroupedItem, plain_item, call, GroupBy, no_group_by, group_by, GroupedSelect, distinct_select, grouped_select, OpClass, no_class, op_class, IndexKey, index_key, Using, no_using, using_method, Include, no_include, include_columns, CreateIndex, index_on, Cand, cand_on, Advised, advised, Advise, advise_of, Statement, empty, create_table, create_index, query, copy, sizes, column_statistics, analyze, advise, check, use_plan, grouped}
+use Rattle.sql_grammar.specs.Syntax.{Col, bare, qualified, Constant, yes, no, unknown, Lit, number, negative, quoted, constant, OperandTree, column, literal, Expr, either_of, Ors, no_or, or_conj, Conj, both_of, Ands, no_and, and_neg, Negated, no_not, not_before, Neg, negated, plain, Atom, parens, compare, is_null, is_not_null, in_list, between, column_alone, constant_alone, Nulls, unwritten, not_null, nullable, ColDef, coldef, Output, every, every_of, one, Alias, no_alias, bare_alias, as_alias, Relation, relation, Inner, no_inner, inner, Join, join_on, cross_join, Group, group_of, Select as SelectTree, select_from, Where, no_where, where_expr, Share, share, CommonPart, no_common, common, Histogram, no_histogram, histogram, Ending, semicolon, text_end, Direction, no_direction, ascending, descending, NullsEnd, no_nulls_end, nulls_first, nulls_last, Ordering, ordering, OrderBy, no_order, order_by, LimitTree, no_limit, most_rows, Offset, no_offset, skipped_rows, WindowTree, window, WindowedSelect, windowed_select, Explaining, no_explain, explain, explain_table, OrderedSelect, ordered_select, MaybeExplain, unexplained, explained, Argument, all_rows, of_col, GroupedItem, plain_item, call, GroupBy, no_group_by, group_by, GroupedSelect, distinct_select, grouped_select, ClassTree, no_class, op_class, KeyTree, index_key, Using, no_using, using_method, Include, no_include, include_columns, CreateIndex, index_on, Cand, cand_on, Advised, advised, Advise, advise_of, Statement, empty, create_table, create_index, query, copy, sizes, column_statistics, analyze, advise, check, use_plan, grouped}
 
 -- a column, with its table's name and a dot before it where that is written
 abbrev pub words_of_col : Col → List Terminal
@@ -33,7 +33,7 @@ words_of_bounds [] = []
 words_of_bounds ((m, l) ∷ ls) = t_mark Comma m ∷ (words_of_lit l ++ words_of_bounds ls)
 
 -- a column or a literal
-abbrev pub words_of_operand : Operand → List Terminal
+abbrev pub words_of_operand : OperandTree → List Terminal
 words_of_operand (column c) = words_of_col c
 words_of_operand (literal l) = words_of_lit l
 
@@ -178,7 +178,7 @@ words_of_order no_order = []
 words_of_order (order_by k b o os) = t_key Order k ∷ t_name (free By b) ∷ (words_of_ordering o ++ words_of_orderings os)
 
 -- LIMIT and a number, or nothing
-abbrev pub words_of_limit : Limit → List Terminal
+abbrev pub words_of_limit : LimitTree → List Terminal
 words_of_limit no_limit = []
 words_of_limit (most_rows _ k n) = t_key LimitKey k ∷ t_number n ∷ []
 
@@ -188,7 +188,7 @@ words_of_offset no_offset = []
 words_of_offset (skipped_rows _ k n) = t_key OffsetKey k ∷ t_number n ∷ []
 
 -- LIMIT, then OFFSET
-abbrev pub words_of_window : Window → List Terminal
+abbrev pub words_of_window : WindowTree → List Terminal
 words_of_window (window l o) = words_of_limit l ++ words_of_offset o
 
 -- a SELECT with its order and its window
@@ -245,16 +245,16 @@ words_of_grouped (grouped_select i is f g gs w b _ y e) =
     (words_of_group g ++ (words_of_groups gs ++ (words_of_where w ++ (words_of_group_by b ++ (words_of_order y ++ words_of_ending e))))))
 
 -- an operator class, or nothing
-abbrev pub words_of_class : OpClass → List Terminal
+abbrev pub words_of_class : ClassTree → List Terminal
 words_of_class no_class = []
 words_of_class (op_class n _) = t_name n ∷ []
 
 -- a key's column with its operator class, its direction and the end at which its NULLs stand
-abbrev pub words_of_key : IndexKey → List Terminal
+abbrev pub words_of_key : KeyTree → List Terminal
 words_of_key (index_key n c d z) = t_name n ∷ (words_of_class c ++ (words_of_direction d ++ words_of_nulls_end z))
 
 -- further keys, each after a comma
-abbrev pub words_of_keys : List (Token × IndexKey) → List Terminal
+abbrev pub words_of_keys : List (Token × KeyTree) → List Terminal
 words_of_keys [] = []
 words_of_keys ((m, k) ∷ ks) = t_mark Comma m ∷ (words_of_key k ++ words_of_keys ks)
 
@@ -315,7 +315,7 @@ words_of_shares [] = []
 words_of_shares ((m, s) ∷ ss) = t_mark Comma m ∷ (words_of_share s ++ words_of_shares ss)
 
 -- the common values, or nothing
-abbrev pub words_of_common : Common → List Terminal
+abbrev pub words_of_common : CommonPart → List Terminal
 words_of_common no_common = []
 words_of_common (common k o s ss m) = t_name (free CommonWord k) ∷ t_mark Open o ∷ (words_of_share s ++ (words_of_shares ss ++ t_mark Close m ∷ []))
 

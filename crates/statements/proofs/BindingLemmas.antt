@@ -17,7 +17,7 @@ use Rattle.catalog.specs.Tables.{table_named}
 use Rattle.sql_lex.specs.declared.tokens.Token.{Token}
 use Rattle.sql_grammar.specs.Terminals.{Said, token_of}
 use Rattle.sql_grammar.specs.Faults.{bytes_of, fault_at}
-use Rattle.sql_grammar.specs.Syntax.{Col, bare, qualified, Ordering, ordering, OrderBy, no_order, order_by, OrderedSelect, ordered_select, Expr, Join, join_on, cross_join, Group, group_of, select_from, WindowedSelect, windowed_select, Where, no_where, where_expr, Limit as LimitTree, no_limit, most_rows, Offset, no_offset, skipped_rows, Window as WindowTree, window}
+use Rattle.sql_grammar.specs.Syntax.{Col, bare, qualified, Ordering, ordering, OrderBy, no_order, order_by, OrderedSelect, ordered_select, Expr, Join, join_on, cross_join, Group, group_of, select_from, WindowedSelect, windowed_select, Where, no_where, where_expr, LimitTree, no_limit, most_rows, Offset, no_offset, skipped_rows, WindowTree, window}
 use Rattle.sql_grammar.specs.FromParts.{groups_after}
 use Rattle.expr_reader.specs.declared.cursor.Spelled.{Spelled}
 use Rattle.expr_reader.specs.Lists.{further_parts}
@@ -30,7 +30,7 @@ use Rattle.query_reader.specs.Written.{item_of, items_of, source_of}
 use Rattle.query_reader.specs.Order.{first_among, order_column, order_item, order_items, shown_of_name}
 use Rattle.query_reader.specs.Scope.{scope_after, scope_of}
 use Rattle.query_reader.specs.From.{Joined, alias_or, conjuncts_of_expr, is_taken, nothing_joined, of_table, under_alias, with_condition, with_group, with_groups, with_join, with_joins, with_relation}
-use Rattle.query_reader.specs.Windows.{most_of, rows_of, skipped_of, window_of}
+use Rattle.query_reader.specs.Windows.{most_of, rows_written, skipped_of, window_of}
 use Rattle.query_reader.specs.Binding.{found_relation, item_columns, then_columns, list_columns, conjuncts_written, limited, past_limit, bound_over, bound_from, bound_part, bound}
 use Rattle.statements.proofs.PlainLemmas.{IsPlain, each-plain, next-plain, found-plain, expr-plain}
 
@@ -113,7 +113,7 @@ pub order-plain : (scope : Scope) (select : List ColRef) (o : OrderBy) → IsPla
 order-plain scope select no_order = tt
 order-plain scope select (order_by k b o os) = each-plain (order_item scope select) (o ∷ further_parts (λ x. x) os) (order-item-plain scope select)
 
-rows-plain : (n : Said) → IsPlain (rows_of n)
+rows-plain : (n : Said) → IsPlain (rows_written n)
 rows-plain n = by (nat_lt (digits_value 10 n.value) (limit types.Int8))
   where
     by : (small : Bool) → IsPlain (cond small (Ok (digits_value 10 n.value)) (Err (fault_at S11 n.token)))
@@ -122,11 +122,11 @@ rows-plain n = by (nat_lt (digits_value 10 n.value) (limit types.Int8))
 
 most-plain : (l : LimitTree) → IsPlain (most_of l)
 most-plain no_limit = tt
-most-plain (most_rows p k n) = next-plain (rows_of n) _ (rows-plain n) (λ rows. tt)
+most-plain (most_rows p k n) = next-plain (rows_written n) _ (rows-plain n) (λ rows. tt)
 
 skipped-plain : (o : Offset) → IsPlain (skipped_of o)
 skipped-plain no_offset = tt
-skipped-plain (skipped_rows p k n) = next-plain (rows_of n) _ (rows-plain n) (λ rows. tt)
+skipped-plain (skipped_rows p k n) = next-plain (rows_written n) _ (rows-plain n) (λ rows. tt)
 
 window-plain : (v : WindowTree) → IsPlain (window_of v)
 window-plain (window l o) = next-plain (most_of l) _ (most-plain l) (λ most. next-plain (skipped_of o) _ (skipped-plain o) (λ skipped. tt))

@@ -27,9 +27,9 @@ use Rattle.ddl_reader.specs.Readings.{definition, reading}
 use Rattle.ddl_reader.specs.Types.{type_named}
 use Rattle.ddl_reader.specs.Columns.{Written, defined_column, BoundColumn, bound_column, bound_by, bound_all, further}
 use Rattle.expr_reader.specs.Lists.{bound_each}
-use Rattle.ddl_reader.specs.Statistics.{CommonWords, common_value, table_of_name, column_of_name, stated_rows, statistics_of, column_statistics_of, commons_of, bounds_of, analysis}
+use Rattle.ddl_reader.specs.Statistics.{CommonWords, common_value, table_of_name, column_of_name, stated_rows, statistics_reading, column_statistics_of, commons_of, bounds_of, analysis}
 use Rattle.expr_reader.specs.Literals.{typed_value}
-use Rattle.ddl_reader.specs.Tables.{table, sizes_for, statistics_for, data_for, analysis_of, Reading, table_reading, limited_columns, bound_table, data_of, data_after}
+use Rattle.ddl_reader.specs.Tables.{table, sizes_for, statistics_for, data_for, analysis_of, Reading, table_reading, limited_columns, bound_table, data_for_named, data_after}
 use Rattle.pg_value.specs.Fields.{null_text}
 use Rattle.ddl_reader.specs.Soundness.{AreSoundSizes, AreSoundStatistics, IsSound, IsSoundTable}
 use Rattle.ddl_reader.specs.Block.{IsBlockEnd}
@@ -70,7 +70,7 @@ either-plain : (b : Bool) (m : Reading) (f : Fault) → f.rec ≡ 0 → IsPlain 
 either-plain true m f none = tt
 either-plain false m f none = none
 
-data-plain : (o : Option TableNo) (name_at null_at : Token) (null : List ℕ) (start : ℕ) → IsPlain (data_of o name_at null null_at start)
+data-plain : (o : Option TableNo) (name_at null_at : Token) (null : List ℕ) (start : ℕ) → IsPlain (data_for_named o name_at null null_at start)
 data-plain None name_at null_at null start = refl
 data-plain (Some t) name_at null_at null start = either-plain (bytes_eq null null_text) _ _ refl
 
@@ -88,7 +88,7 @@ analysis-plain cat n = next-plain (table_of_name cat n) _ (table-name-plain cat 
 common-plain : (t : SqlType) (w : CommonWords) → IsPlain (common_value t w)
 common-plain t w = next-plain (typed_value t w.0) _ (typed-plain t w.0) (λ v. tt)
 
-values-plain : (t : SqlType) (of : TableNo) (col : ColNo) (distinct nulls : Said) (commons : List CommonWords) (bounds : List Lit) → IsPlain (statistics_of t of col distinct nulls commons bounds)
+values-plain : (t : SqlType) (of : TableNo) (col : ColNo) (distinct nulls : Said) (commons : List CommonWords) (bounds : List Lit) → IsPlain (statistics_reading t of col distinct nulls commons bounds)
 values-plain t of col distinct nulls commons bounds =
     next-plain (bound_each (common_value t) commons) _ (each-plain (common_value t) commons (common-plain t))
     (λ values. next-plain (bound_each (typed_value t) bounds) _ (each-plain (typed_value t) bounds (typed-plain t)) (λ limits. tt))

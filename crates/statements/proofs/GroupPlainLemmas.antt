@@ -21,7 +21,7 @@ use Rattle.query_reader.specs.Order.{order_items}
 use Rattle.query_reader.specs.Scope.{scope_of}
 use Rattle.query_reader.specs.Written.{item_of}
 use Rattle.group_reader.specs.declared.parts.Part.{Part}
-use Rattle.group_reader.specs.Binding.{Grouper, columns_of, shown, all_grouped, bound_groups, call_parts, group_columns, groups_over, item_parts, keys_by, known_call, list_parts, lists_bound, none_of, order_words, over_column, over_rows, shown_columns, ungrouped_items, ungrouped_part}
+use Rattle.group_reader.specs.Binding.{Grouper, columns_of, shown, all_grouped, bound_groups, call_parts, group_columns, groups_over, item_parts, grouping_columns, known_call, list_parts, lists_bound, none_of, order_words, over_column, over_rows, shown_columns, ungrouped_items, ungrouped_part}
 use Rattle.statements.proofs.BindingLemmas.{groups-plain, item-plain, limit-plain, order-plain, where-plain}
 use Rattle.statements.proofs.PlainLemmas.{IsPlain, column-plain, each-plain, next-plain}
 
@@ -53,7 +53,7 @@ module _ (scope : Scope) (type_of : ColRef → SqlType) where
   parts-plain [] = tt
   parts-plain (i ∷ is) = next-plain (item_parts scope type_of i) _ (part-plain i) (λ ps. next-plain (list_parts scope type_of is) _ (parts-plain is) (λ qs. tt))
 
-  keys-plain : (b : Grouper) (ps : List Part) → IsPlain (keys_by scope b ps)
+  keys-plain : (b : Grouper) (ps : List Part) → IsPlain (grouping_columns scope b ps)
   keys-plain (columns_of b) ps = columns-plain scope b
   keys-plain shown ps = tt
 
@@ -61,7 +61,7 @@ module _ (scope : Scope) (type_of : ColRef → SqlType) where
   lists-plain is b y =
       next-plain (list_parts scope type_of is) _ (parts-plain is)
       (λ ps. next-plain (order_items scope (shown_columns ps) y) _ (order-plain scope (shown_columns ps) y)
-      (λ ordered. next-plain (keys_by scope b ps) _ (keys-plain b ps) (λ keys. grouped-plain keys ps ordered (order_words y) (record { parts = ps; order = ordered; keys = keys }))))
+      (λ ordered. next-plain (grouping_columns scope b ps) _ (keys-plain b ps) (λ keys. grouped-plain keys ps ordered (order_words y) (record { parts = ps; order = ordered; keys = keys }))))
 
 over-plain : (start : Token) (is : List GroupedItem) (w : Where) (b : Grouper) (y : OrderBy) (j : Joined) → IsPlain (groups_over start is w b y j)
 over-plain start is w b y j =

@@ -14,7 +14,7 @@ use Rattle.opfamily.specs.Answers.{accepted, class_of_name}
 use Rattle.sql_lex.specs.declared.tokens.Token.{Token}
 use Rattle.sql_lex.specs.Ends.{end_of}
 use Rattle.sql_grammar.specs.Terminals.{Ident, token_of}
-use Rattle.sql_grammar.specs.Syntax.{Where, no_where, where_expr, OpClass as ClassTree, no_class, op_class, IndexKey as KeyTree, index_key, Using, no_using, using_method, Cand, cand_on, CreateIndex, index_on, create_index}
+use Rattle.sql_grammar.specs.Syntax.{Where, no_where, where_expr, ClassTree, no_class, op_class, KeyTree, index_key, Using, no_using, using_method, Cand, cand_on, CreateIndex, index_on, create_index}
 use Rattle.sql_grammar.specs.Faults.{bytes_of}
 use Rattle.expr_reader.specs.Lists.{bound_each}
 use Rattle.catalog.specs.declared.fault.CatalogFault.{CatalogFault}
@@ -27,8 +27,8 @@ use Rattle.ddl_reader.specs.Statistics.{known, table_of_name, column_of_name}
 use Rattle.index_reader.specs.declared.keys.KeyRead.{KeyRead}
 use Rattle.index_reader.specs.declared.names.NamedColumn.{NamedColumn}
 use Rattle.index_reader.specs.declared.methods.MethodRead.{MethodRead}
-use Rattle.index_reader.specs.Keys.{class_bound, class_has_method, class_known, key_bound, keys_of, method_bound, method_of_name, name_bound, include_names}
-use Rattle.index_reader.specs.Meaning.{IndexMeant, condition_bound, has_many_atoms, index_reading, limited_names, meaning, meaning_of_cand, name_tokens, within_limits}
+use Rattle.index_reader.specs.Keys.{class_bound, class_has_method, class_known, key_bound, all_key_trees, method_bound, method_of_name, name_bound, include_names}
+use Rattle.index_reader.specs.Meaning.{IndexMeant, condition_bound, has_many_atoms, index_reading, limited_names, meaning_of_index, meaning_of_cand, name_tokens, within_limits}
 use Rattle.index_reader.specs.Statements.{IsIndexMeaning, IsCreateRefusal}
 use Rattle.index_reader.specs.Visible.{Sight, visible_in, sight_type}
 use Rattle.sql_query.specs.Worlds.{World, stored_at}
@@ -86,15 +86,15 @@ pub cand-plain : (cat : Contents) (start : Token) (x : Cand) → IsPlain (meanin
 cand-plain cat start (cand_on n o of u p x xs m c w) =
     next-plain (table_of_name cat of) _ (table-name-plain cat of) (λ t.
     next-plain (method_bound u) _ (method-plain u) (λ by.
-    next-plain (bound_each (key_bound cat t by.method) (keys_of x xs)) _ (each-plain (key_bound cat t by.method) (keys_of x xs) (key-plain cat t by.method)) (λ keys.
+    next-plain (bound_each (key_bound cat t by.method) (all_key_trees x xs)) _ (each-plain (key_bound cat t by.method) (all_key_trees x xs) (key-plain cat t by.method)) (λ keys.
     next-plain (bound_each (name_bound cat t) (include_names c)) _ (each-plain (name_bound cat t) (include_names c) (include-plain cat t)) (λ names.
     next-plain (condition_bound (record { contents = cat; table = t; alias = bytes_of of }) w) _ (condition-plain (record { contents = cat; table = t; alias = bytes_of of }) w) (λ predicate.
     limits-plain start n t by keys names predicate)))))
 
-meaning-plain : (cat : Contents) (x : CreateIndex) → IsPlain (meaning cat x)
+meaning-plain : (cat : Contents) (x : CreateIndex) → IsPlain (meaning_of_index cat x)
 meaning-plain cat (index_on start i n o of u p x xs m c w e) = cand-plain cat start (cand_on n o of u p x xs m c w)
 
-fault-plain : (cat : Contents) (x : CreateIndex) (f : Fault) → meaning cat x ≡ Err f → f.rec ≡ 0
+fault-plain : (cat : Contents) (x : CreateIndex) (f : Fault) → meaning_of_index cat x ≡ Err f → f.rec ≡ 0
 fault-plain cat x f is = subst IsPlain is (meaning-plain cat x)
 
 -- a column in error has its place

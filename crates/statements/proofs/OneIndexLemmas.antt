@@ -6,7 +6,7 @@ use Rattle.pg_base.specs.declared.numbers.ColNo.{ColNo}
 use Rattle.pg_base.specs.declared.faults.Fault.{Fault}
 use Rattle.sql_lex.specs.declared.tokens.Token.{Token}
 use Rattle.catalog.specs.Contents.{Contents}
-use Rattle.catalog.specs.Indexes.{Index, AreDifferent, IsFirstTwice, columns_of, has_form}
+use Rattle.catalog.specs.Indexes.{Index, AreDifferentColumns, IsFirstTwice, columns_of, has_form}
 use Rattle.catalog.specs.Tables.{IsAcceptableIndex, IsIndexRefusal}
 use Rattle.catalog.specs.declared.fault.CatalogFault.{CatalogFault}
 use Rattle.catalog.specs.declared.fault.CatalogFault.TheVariants.{NameTaken, ColumnTwice, TooMany, BadNumber, Memory}
@@ -17,13 +17,13 @@ abbrev first_column : ColNo
 first_column = record { 0 = 0 }
 
 -- a column that stands before its place is none of different ones
-other : (cs : List ColNo) (n : ℕ) (x : ColNo) → n < length cs → get_or cs n x ≡ x → AreDifferent cs → Contains (take n cs) x → ⊥
+other : (cs : List ColNo) (n : ℕ) (x : ColNo) → n < length cs → get_or cs n x ≡ x → AreDifferentColumns cs → Contains (take n cs) x → ⊥
 other cs n x lt at h among =
     let len = length-take n cs in
     let before : among.0 < n = omega (arith, len, among.1) in
     h among.0 n x before lt (sym (get_or-take n cs among.0 x before) ∙ among.2 ∙ sym at)
 
-pub twice : (cs : List ColNo) (place : ℕ) → IsFirstTwice cs place → AreDifferent cs → ⊥
+pub twice : (cs : List ColNo) (place : ℕ) → IsFirstTwice cs place → AreDifferentColumns cs → ⊥
 twice cs place p different = other cs place (get_or cs place first_column) p.within (get_or_default cs place (get_or cs place first_column) first_column p.within) different p.twice
 
 -- no first one stands before another

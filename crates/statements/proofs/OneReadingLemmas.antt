@@ -33,7 +33,6 @@ use Rattle.sql_query.specs.Worlds.{World, stored_at}
 use Rattle.store.specs.Actions.{Action, advise, build, fill, follow, verify}
 use Rattle.statements.specs.Accepted.{Advises, Answers, Carries, Does, Groups, Indexes, IsReadOver, IsRead, Takes, action_asked, asked_as, asked_of_groups}
 use Rattle.statements.specs.Faults.{endless_fault, index_fault, word_ends, IsCheckFault, in_line, in_select, without_end, rows_fault, IsRefused, IsAdviseFault, IsDefinitionFault, IsGroupFault, IsIndexFault, IsQueryFault, IsMeaningFault, IsFaultOver, in_syntax, in_meaning, IsFault, in_words, after_words}
-use Rattle.group_reply.specs.reply_Answers.{HasNoPlan}
 use Rattle.group_reply.specs.reply_Replies.{Reply}
 use Rattle.statements.specs.Replies.{IsReply}
 use Rattle.index_reader.specs.AdviseMeaning.{Asked}
@@ -43,6 +42,7 @@ use Rattle.statements.proofs.OneIndexLemmas.{one_index_refusal, no_index_refusal
 use Rattle.sql_grammar.proofs.StatementTrees.{one_tree}
 use Rattle.statements.proofs.FirstFaultLemmas.{one_first, no_first}
 use Rattle.statements.proofs.OneEndLemmas.{one_end, no_end, one_start, some-one, one_refusal, no_refusal, one_size_refusal, one_statistics_refusal, no_size_refusal, no_statistics_refusal}
+use Rattle.plan_tree.specs.Least.{HasNoPlan}
 
 -- a definition means one thing
 one_meaning : (c : Contents) (text : List ℕ) (x : Statement) (r s : Result Reading Fault) → Means c text x r → Means c text x s → r ≡ s

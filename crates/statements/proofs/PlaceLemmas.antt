@@ -32,7 +32,7 @@ use Rattle.catalog.specs.Tables.{table_named}
 use Rattle.expr_reader.specs.Conditions.{next as following}
 use Rattle.expr_reader.specs.Literals.{typed_value}
 use Rattle.expr_reader.specs.Lists.{bound_each}
-use Rattle.ddl_reader.specs.Statistics.{CommonWords, common_value, table_of_name, column_of_name, stated_rows, statistics_of, column_statistics_of, commons_of, bounds_of, analysis}
+use Rattle.ddl_reader.specs.Statistics.{CommonWords, common_value, table_of_name, column_of_name, stated_rows, statistics_reading, column_statistics_of, commons_of, bounds_of, analysis}
 use Rattle.sql_grammar.proofs.ExprTrees.{tokens-are}
 use Rattle.ddl_reader.specs.Columns.{BoundColumn, bound_all, defined_column, further}
 use Rattle.ddl_reader.specs.Tables.{Definition, table, sizes_for, statistics_for, data_for, analysis_of, Reading, data_after, limited_columns, bound_table, table_reading}
@@ -174,7 +174,7 @@ module _ (w : World) (text : List ℕ) (tokens : List Token) where
   analysis-last : (c : Contents) (n : Ident) → EndsLast w text tokens (analysis c n)
   analysis-last c n = next-last (table_of_name c n) _ (λ t action next carried. carried.1)
 
-  values-last : (type : SqlType) (t : TableNo) (col : ColNo) (distinct nulls : Said) (commons : List CommonWords) (bounds : List Lit) → EndsLast w text tokens (statistics_of type t col distinct nulls commons bounds)
+  values-last : (type : SqlType) (t : TableNo) (col : ColNo) (distinct nulls : Said) (commons : List CommonWords) (bounds : List Lit) → EndsLast w text tokens (statistics_reading type t col distinct nulls commons bounds)
   values-last type t col distinct nulls commons bounds =
       next-last (bound_each (common_value type) commons) _ (λ values. next-last (bound_each (typed_value type) bounds) _ (λ limits action next carried. carried.2))
 

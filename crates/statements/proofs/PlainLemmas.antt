@@ -20,14 +20,14 @@ use Rattle.catalog.specs.Tables.{column_named, table_named}
 use Rattle.sql_lex.specs.declared.tokens.Token.{Token}
 use Rattle.sql_grammar.specs.Terminals.{Ident, Said, token_of}
 use Rattle.sql_grammar.specs.Faults.{Production, IsFirstFault, bytes_of, fault_at}
-use Rattle.sql_grammar.specs.Syntax.{Col, bare, qualified, yes, no, unknown, Lit, number, negative, quoted, constant, Operand, column, literal, Expr, either_of, Ors, no_or, or_conj, Conj, both_of, Ands, no_and, and_neg, Neg, negated, plain, Atom, parens, compare, is_null, is_not_null, in_list, between, column_alone, constant_alone}
+use Rattle.sql_grammar.specs.Syntax.{Col, bare, qualified, yes, no, unknown, Lit, number, negative, quoted, constant, OperandTree, column, literal, Expr, either_of, Ors, no_or, or_conj, Conj, both_of, Ands, no_and, and_neg, Neg, negated, plain, Atom, parens, compare, is_null, is_not_null, in_list, between, column_alone, constant_alone}
 use Rattle.expr_reader.specs.Lists.{before_all, bound_each}
 use Rattle.expr_reader.specs.Operators.{operator_of}
 use Rattle.expr_reader.specs.declared.found.Found.{Found}
 use Rattle.expr_reader.specs.declared.found.Found.TheVariants.{One, NoTable, NoColumn, Many}
 use Rattle.expr_reader.specs.Scope.{Scope, look_up}
-use Rattle.expr_reader.specs.Literals.{literal_value, number_as, flag_as, typed_value, value_at, written}
-use Rattle.expr_reader.specs.Conditions.{next, the_column, column_of, place_of_col, Side, of_column, of_literal, own_type, type_beside, operand_of, operated, compare_as, flag_column, then_parts, comparison, standing_for, literals_after, equal_to, bounded_by, side_of, meaning_of_expr, meaning_of_ors, meaning_of_conj, meaning_of_ands, meaning_of_neg, meaning_of_atom}
+use Rattle.expr_reader.specs.Literals.{literal_value, number_as, flag_as, typed_value, value_or_fault, written}
+use Rattle.expr_reader.specs.Conditions.{next, the_column, column_of, place_of_col, BoundSide, of_column, of_literal, own_type, type_beside, operand_of, operated, compare_as, flag_column, then_parts, comparison, standing_for, literals_after, equal_to, bounded_by, side_of, meaning_of_expr, meaning_of_ors, meaning_of_conj, meaning_of_ands, meaning_of_neg, meaning_of_atom}
 use Rattle.ddl_reader.specs.Statistics.{known, table_of_name, column_of_name}
 use Rattle.reply_text.specs.Tells.{IsFieldOf}
 
@@ -69,7 +69,7 @@ pub column-name-plain : (cat : Contents) (t : TableNo) (n : Ident) → IsPlain (
 column-name-plain cat t n = known-plain S3 (token_of n) (column_named cat t (bytes_of n))
 
 -- literals
-value-plain : (token : Token) (r : Result Value FieldFault) → IsPlain (value_at token r)
+value-plain : (token : Token) (r : Result Value FieldFault) → IsPlain (value_or_fault token r)
 value-plain token (Ok v) = tt
 value-plain token (Err fields.Range) = refl
 value-plain token (Err fields.Invalid) = refl
@@ -117,7 +117,7 @@ column-plain scope (bare n) = found-plain (look_up scope None (bytes_of n)) (tok
 column-plain scope (qualified q m n) = found-plain (look_up scope (Some (bytes_of q)) (bytes_of n)) (token_of q) (token_of n)
 
 -- comparisons
-operand-plain : (t : SqlType) (s : Side) → IsPlain (operand_of t s)
+operand-plain : (t : SqlType) (s : BoundSide) → IsPlain (operand_of t s)
 operand-plain t (of_column c u token) = tt
 operand-plain t (of_literal l) = next-plain (literal_value t l) _ (literal-plain t l) (λ v. tt)
 
@@ -129,7 +129,7 @@ operated-plain : (o : Option Op) (token : Token) (t u : SqlType) (x y : Bound) �
 operated-plain None token t u x y = refl
 operated-plain (Some op) token t u x y = exists-plain (does_exist op t u) (compared op x y) token _
 
-sides-plain : (op : Said) (t u : SqlType) (a b : Side) → IsPlain (compare_as op t u a b)
+sides-plain : (op : Said) (t u : SqlType) (a b : BoundSide) → IsPlain (compare_as op t u a b)
 sides-plain op t u a b =
     next-plain (operand_of t a) _ (operand-plain t a) (λ x. next-plain (operand_of u b) _ (operand-plain u b) (λ y. operated-plain (operator_of op.value) op.token t u x y))
 
@@ -145,11 +145,11 @@ parts-plain part parts p q = next-plain part _ p (λ x. next-plain parts _ q (λ
 
 -- conditions
 module _ (scope : Scope) (type_of : ColRef → SqlType) where
-  side-plain : (o : Operand) → IsPlain (side_of scope type_of o)
+  side-plain : (o : OperandTree) → IsPlain (side_of scope type_of o)
   side-plain (column c) = next-plain (column_of scope c) _ (column-plain scope c) (λ r. tt)
   side-plain (literal l) = tt
 
-  comparison-plain : (l : Operand) (op : Said) (r : Operand) → IsPlain (comparison scope type_of l op r)
+  comparison-plain : (l : OperandTree) (op : Said) (r : OperandTree) → IsPlain (comparison scope type_of l op r)
   comparison-plain l op r =
       next-plain (side_of scope type_of l) _ (side-plain l) (λ a. next-plain (side_of scope type_of r) _ (side-plain r) (λ b. sides-plain op (type_beside (own_type a) (own_type b)) (type_beside (own_type b) (own_type a)) a b))
 
@@ -157,7 +157,7 @@ module _ (scope : Scope) (type_of : ColRef → SqlType) where
   equals-plain c w [] = tt
   equals-plain c w (l ∷ ls) = parts-plain _ (equal_to scope type_of c w ls) (comparison-plain (column c) (standing_for (codes "=") w) (literal l)) (equals-plain c w ls)
 
-  bounds-plain : (l : Operand) (w : Token) (a b : Operand) → IsPlain (bounded_by scope type_of l w a b)
+  bounds-plain : (l : OperandTree) (w : Token) (a b : OperandTree) → IsPlain (bounded_by scope type_of l w a b)
   bounds-plain l w a b =
       parts-plain _ _ (comparison-plain l (standing_for (codes ">=") w) a) (parts-plain _ (Ok no_conds) (comparison-plain l (standing_for (codes "<=") w) b) tt)
 

@@ -35,7 +35,6 @@ use Rattle.sql_query.specs.Grouped.{GroupedQuery}
 use Rattle.sql_query.specs.Queries.{Query}
 use Rattle.sql_query.specs.WellBound.{given_of}
 use Rattle.sql_query.specs.Worlds.{World}
-use Rattle.group_reply.specs.reply_Answers.{HasNoPlan}
 use Rattle.store.specs.Actions.{answer_groups, explain_groups}
 use Rattle.statements.specs.Accepted.{IsReadOver, action_asked, asked_of_groups}
 use Rattle.statements.specs.Faults.{IsFaultOver, in_syntax, in_meaning, no_plan}
@@ -45,6 +44,7 @@ use Rattle.statements.proofs.ArmsLemmas.{has-arms}
 use Rattle.statements.proofs.BindingLemmas.{bound-plain}
 use Rattle.statements.proofs.GroupPlainLemmas.{groups-bound-plain}
 use Rattle.statements.proofs.PlainLemmas.{first-plain}
+use Rattle.plan_tree.specs.Least.{HasNoPlan}
 
 -- the first word is `;` or the text's end
 abbrev begins_end : List Terminal → Bool

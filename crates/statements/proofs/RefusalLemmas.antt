@@ -7,7 +7,7 @@ use Rattle.pg_base.specs.declared.numbers.TableNo.{TableNo}
 use Rattle.pg_value.specs.declared.columns.Column.{Column}
 use Rattle.catalog.specs.declared.fault.CatalogFault.{CatalogFault}
 use Rattle.catalog.specs.declared.fault.CatalogFault.TheVariants as refused
-use Rattle.catalog.specs.Statistics.{Statistics, bound_of, is_refused, pair_of}
+use Rattle.catalog.specs.Statistics.{Statistics, bound_number_at, is_refused, pair_of}
 use Rattle.catalog.specs.Tables.{IsRefusal, IsSizeRefusal, IsStatisticsRefusal}
 use Rattle.ddl_reader.specs.Tables.{table, sizes_for, statistics_for}
 use Rattle.sql_query.specs.Worlds.{World}
@@ -72,7 +72,7 @@ none-refused false false false true x y z u p q r s = cc
 
 past-all : (s : Statistics) (place : ℕ) → 2 + (2 * length s.common + length s.histogram) ≤ place → is_refused s place ≡ false
 past-all s place le =
-    none-refused (nat_eq place 0) (nat_eq place 1) (nat_lt (pair_of place) (length s.common)) (nat_lt (bound_of s place) (length s.histogram)) _ _ _ _
+    none-refused (nat_eq place 0) (nat_eq place 1) (nat_lt (pair_of place) (length s.common)) (nat_lt (bound_number_at s place) (length s.histogram)) _ _ _ _
     (grind (arith, nat_tests, le)) (grind (arith, nat_tests, le)) (grind (arith, nat_tests, le)) (grind (arith, nat_tests, le))
 
 refused-within : (s : Statistics) (place : ℕ) → is_refused s place ≡ true → place < 2 + (2 * length s.common + length s.histogram)

@@ -19,7 +19,7 @@ use Rattle.ddl_reader.specs.Statements.{Means}
 use Rattle.ddl_reader.specs.Tables.{Definition, table, sizes_for, statistics_for, data_for, analysis_of, Reading}
 use Rattle.heap.specs.Loading.{records_of, loaded}
 use Rattle.heap.specs.Stored.{Stored}
-use Rattle.index_reader.specs.Meaning.{IndexMeant as IndexReading, meaning}
+use Rattle.index_reader.specs.Meaning.{IndexMeant as IndexReading, meaning_of_index}
 use Rattle.group_query.specs.Grouping.{given_groups}
 use Rattle.group_reader.specs.Binding.{BoundGroups, bound_groups, grouped_with}
 use Rattle.query_reader.specs.Binding.{Bound, bound, bound_part, query_with}
@@ -50,7 +50,7 @@ Defines w text tokens x action next = (r : Reading) × Means w.contents text x (
 -- CREATE INDEX makes the index that it means, where the catalogue accepts it
 abbrev pub Indexes : World → List Token → CreateIndex → Action → ℕ → Type 0
 Indexes w tokens x action next =
-    (r : IndexReading) × (meaning w.contents x ≡ Ok r) × IsAcceptableIndex w.contents r.name r.index × (action ≡ build r.name r.index) × (next ≡ end_of tokens)
+    (r : IndexReading) × (meaning_of_index w.contents x ≡ Ok r) × IsAcceptableIndex w.contents r.name r.index × (action ≡ build r.name r.index) × (next ≡ end_of tokens)
 
 -- a query is answered, its plan is explained, or its plan with the table of it
 abbrev pub asked_as : Wanted → Query → Action

@@ -25,18 +25,18 @@ use Rattle.heap.specs.declared.fault.CopyFault.{CopyFault}
 use Rattle.heap.specs.declared.fault.CopyFault.TheVariants as copying
 use Rattle.heap.specs.Loading.{records_of, loaded}
 use Rattle.index_prices.specs.Replies.{HasNoAdviceFor}
-use Rattle.index_reader.specs.Meaning.{IndexMeant as IndexReading, meaning}
+use Rattle.index_reader.specs.Meaning.{IndexMeant as IndexReading, meaning_of_index}
 use Rattle.index_reader.specs.Places.{word_fault}
 use Rattle.group_query.specs.Grouping.{given_groups}
 use Rattle.group_reader.specs.Binding.{BoundGroups, bound_groups, grouped_with}
 use Rattle.group_reply.specs.group_explain_Plans.{HasNoGroupPlan}
 use Rattle.query_reader.specs.Binding.{Bound, bound, bound_part, query_with}
 use Rattle.query_reader.specs.Select.{words_before}
-use Rattle.group_reply.specs.reply_Answers.{HasNoPlan}
 use Rattle.sql_query.specs.WellBound.{given_of}
 use Rattle.sql_query.specs.Worlds.{World, stored_at}
 use Rattle.sql_lex.specs.Ends.{token_at}
 use Rattle.statements.specs.Accepted.{HaveClasses}
+use Rattle.plan_tree.specs.Least.{HasNoPlan}
 
 -- where the words end that begin at these offsets
 abbrev pub word_ends : List ℕ → List (List ℕ) → List ℕ
@@ -103,7 +103,7 @@ IsDefinitionFault w text x f = Means w.contents text x (Err f) ⊎ ((r : Reading
 -- a fault of CREATE INDEX: in its names and limits, or the catalogue refuses the index
 abbrev pub IsIndexFault : World → List Token → CreateIndex → Fault → Type 0
 IsIndexFault w tokens x f =
-    (meaning w.contents x ≡ Err f) ⊎ ((r : IndexReading) × (e : CatalogFault) × (meaning w.contents x ≡ Ok r) × IsIndexRefusal w.contents r.name r.index e × (index_fault e r.at r.method tokens ≡ Some f))
+    (meaning_of_index w.contents x ≡ Err f) ⊎ ((r : IndexReading) × (e : CatalogFault) × (meaning_of_index w.contents x ≡ Ok r) × IsIndexRefusal w.contents r.name r.index e × (index_fault e r.at r.method tokens ≡ Some f))
 
 -- the fault of a query without an admissible plan: an error at the word SELECT
 abbrev pub no_plan : List ℕ → List Token → Fault

@@ -17,10 +17,10 @@ use Rattle.group_query.specs.Grouping.{IsWellGrouped}
 use Rattle.group_reader.specs.declared.selected.Selected.{Selected}
 use Rattle.group_reader.specs.declared.selected.Selected.TheVariants.{Plain, Grouped}
 use Rattle.group_reply.specs.group_explain_Plans.{HasNoGroupPlan}
-use Rattle.group_reply.specs.reply_Answers.{HasNoPlan}
 use Rattle.store.specs.Actions.{Action, answer_groups, explain_groups}
 use Rattle.statements.specs.declared.using.Place.{Place}
 use Rattle.statements.specs.Accepted.{action_asked, asked_as}
+use Rattle.plan_tree.specs.Least.{HasNoPlan}
 
 -- the tokens are a statement of more than its end, and of no other kind than a SELECT; the store is one of the catalogue
 pub record IsQuestion {C F L : Type 0} (at : Place C F L) : Type 0 where

@@ -12,7 +12,6 @@ ghost use Rattle.plan_reply.specs.certificate_laws_Arms.{HasArmsInOrs};
 ghost use Rattle.query_reader.specs.Select.{AreNoOther, words_before};
 ghost use Rattle.group_query.specs.Grouping.{IsWellGrouped};
 ghost use Rattle.group_reply.specs.group_explain_Plans.{HasNoGroupPlan};
-ghost use Rattle.group_reply.specs.reply_Answers.{HasNoPlan};
 ghost use Rattle.group_reply.specs.reply_Putting.{HasWriteCause};
 ghost use Rattle.group_reply.specs.reply_Replies.{HasReplied, Leaves, traces};
 ghost use Rattle.statements.specs.Accepted.{IsReadOver};
@@ -24,6 +23,7 @@ ghost use Rattle.statements.specs.Questions.{AreAnySelect, HasNoneOf, IsBoundTo,
 ghost use Rattle.statements.specs.Replies.{IsReply};
 ghost use Rattle.statements.specs.Steps.{Refuses};
 ghost use Rattle.statements.specs.Places.{IsAnsweredAt, IsTalliedAt, RefusesAt, StopsAnswerAt};
+ghost use Rattle.plan_tree.specs.Least.{HasNoPlan};
 
 use crate::end::End;
 use crate::using::Place;

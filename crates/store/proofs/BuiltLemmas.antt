@@ -7,7 +7,7 @@ use Rattle.pg_base.specs.declared.numbers.TableNo.{TableNo}
 use Rattle.pg_value.specs.Order.{IsOfFamily}
 use Rattle.pg_value.specs.Sorting.{in_order}
 use Rattle.pg_value.proofs.SortingLemmas.{in_order_again}
-use Rattle.opfamily.specs.KeyOrder.{Entry, entry_order, key_family}
+use Rattle.opfamily.specs.KeyOrder.{IndexEntry, entry_order, key_family}
 use Rattle.opfamily.specs.declared.classes.IndexKey.{IndexKey}
 use Rattle.opfamily.specs.declared.classes.Method.{Method}
 use Rattle.opfamily.specs.declared.classes.Method.TheVariants.{Btree, Hash}
@@ -35,10 +35,10 @@ no-tree : (a : HashTable) (b : Tree) → hashed a ≡ sorted b → ⊥
 no-tree a b e = cc
 
 -- what stands of an entry in a hash index, of those of rows below a number
-held-below : (end : ℕ) (es : List Entry) → filter (λ (h : Held). nat_lt h.row end) (map held_of es) ≡ map held_of (filter (λ (e : Entry). nat_lt e.row end) es)
+held-below : (end : ℕ) (es : List IndexEntry) → filter (λ (h : Held). nat_lt h.row end) (map held_of es) ≡ map held_of (filter (λ (e : IndexEntry). nat_lt e.row end) es)
 held-below end [] = refl
 held-below end (e ∷ es) = elim (nat_lt e.row end) as (λ b. cond b (held_of e ∷ filter (λ (h : Held). nat_lt h.row end) (map held_of es)) (filter (λ (h : Held). nat_lt h.row end) (map held_of es))
-    ≡ map held_of (cond b (e ∷ filter (λ (x : Entry). nat_lt x.row end) es) (filter (λ (x : Entry). nat_lt x.row end) es)))
+    ≡ map held_of (cond b (e ∷ filter (λ (x : IndexEntry). nat_lt x.row end) es) (filter (λ (x : IndexEntry). nat_lt x.row end) es)))
     [ true ↦ ap (λ l. held_of e ∷ l) (held-below end es) | false ↦ held-below end es ]
 
 module _ (table : TableNo) (keys : List IndexKey) (include : List ColNo) (predicate : Option Cond) where
@@ -49,7 +49,7 @@ module _ (table : TableNo) (keys : List IndexKey) (include : List ColNo) (predic
   module _ (rows : List Values) (from : ℕ) (le : from ≤ length rows) where
     tree-grown : with_entries (tree_of (def Btree) (take from rows)) (found (def Btree) rows from) ≡ tree_of (def Btree) rows
     tree-grown =
-        ap (λ (es : List Entry). record { keys = keys; include = include; entries = es })
+        ap (λ (es : List IndexEntry). record { keys = keys; include = include; entries = es })
         (in_order_again (entry_order keys) (entries_total keys) (whole (def Btree) (take from rows)) (found (def Btree) rows from)
         ∙ ap (in_order (entry_order keys)) (sym (whole-grown (def Btree) rows from le)))
 
@@ -70,8 +70,8 @@ module _ (table : TableNo) (keys : List IndexKey) (include : List ColNo) (predic
 
     below-by : (m : Method) → below from (built_by m (def m) rows) ≡ built_by m (def m) (take from rows)
     below-by Btree =
-        ap (λ (es : List Entry). sorted (record { keys = keys; include = include; entries = es }))
-        (filter-in_order (entry_order keys) (entries_total keys) (λ (e : Entry). nat_lt e.row from) (whole (def Btree) rows)
+        ap (λ (es : List IndexEntry). sorted (record { keys = keys; include = include; entries = es }))
+        (filter-in_order (entry_order keys) (entries_total keys) (λ (e : IndexEntry). nat_lt e.row from) (whole (def Btree) rows)
         ∙ ap (in_order (entry_order keys)) (whole-cut (def Btree) rows from le))
     below-by Hash =
         let order = held_order (first_key keys) in
@@ -99,7 +99,7 @@ module _ (d : Index) (rows : List Values) (from : ℕ) (le : from ≤ length row
   pub below-built : below from (built_of d rows) ≡ built_of d (take from rows)
   below-built = below-by d.table d.keys d.include d.predicate rows from le d.method
 
-  pub sorted-fits : (t : Tree) → sorted t ≡ built_of d (take from rows) → (es : List Entry) → All (IsEntryOf d.keys d.include) es → All (IsEntryOf t.keys t.include) es
+  pub sorted-fits : (t : Tree) → sorted t ≡ built_of d (take from rows) → (es : List IndexEntry) → All (IsEntryOf d.keys d.include) es → All (IsEntryOf t.keys t.include) es
   sorted-fits t is es fits =
       let same = keys-of-tree d.table d.keys d.include d.predicate d.method (take from rows) t is in
       subst (λ (ks : List IndexKey). All (IsEntryOf ks t.include) es) (sym same.0) (subst (λ (cs : List ColNo). All (IsEntryOf d.keys cs) es) (sym same.1) fits)

@@ -12,7 +12,7 @@ use Rattle.pg_value.specs.declared.value.SqlType.{SqlType}
 use Rattle.pg_value.specs.Order.{IsOfFamily}
 use Rattle.opfamily.specs.Answers.{accepted, family_of, number_in}
 use Rattle.opfamily.specs.Table.{class}
-use Rattle.opfamily.specs.KeyOrder.{AreKeyValues, Entry, family_or_integer, first_value, key_family}
+use Rattle.opfamily.specs.KeyOrder.{AreKeyValues, IndexEntry, family_or_integer, first_value, key_family}
 use Rattle.opfamily.specs.declared.classes.IndexKey.{IndexKey}
 use Rattle.opfamily.specs.declared.classes.Method.{Method}
 use Rattle.opfamily.specs.declared.classes.Method.TheVariants.{Hash}
@@ -99,7 +99,7 @@ each-cond : {A : Type 0} (P : A → Type 0) (b : Bool) (x : A) (l : List A) → 
 each-cond P true x l p h = (p, h)
 each-cond P false x l p h = h
 
-each-among : (P : Entry → Type 0) (d : Index) (rows : List Values) (a n : ℕ) → ((k : ℕ) → k < a + n → P (entry d rows k)) → AllByRecursion P (among d rows a n)
+each-among : (P : IndexEntry → Type 0) (d : Index) (rows : List Values) (a n : ℕ) → ((k : ℕ) → k < a + n → P (entry d rows k)) → AllByRecursion P (among d rows a n)
 each-among P d rows a zero h = tt
 each-among P d rows a (suc n) h =
     subst (AllByRecursion P) (sym (among-suc d rows a n))
@@ -130,7 +130,7 @@ module _ (columns : List Column) (d : Index) (lawful : IsLawfulIndex columns d) 
         let P : Held → Type 0 = λ (h : Held). IsOfFamily (key_family (first_key d.keys)) h.value in
         All-from_recursion P (map held_of (found d rows from))
         (each-mapped P held_of (found d rows from)
-        (each-among (λ (e : Entry). P (held_of e)) d rows from (length rows - from)
+        (each-among (λ (e : IndexEntry). P (held_of e)) d rows from (length rows - from)
         (λ k lt. subst (IsOfFamily (key_family (first_key d.keys))) (sym (key-of-one d.keys (get_or rows k []) lawful.fits.some))
         (key-fits columns d.method (first_key d.keys) (get_or rows k []) first-key-is (each k [] (omega arith))))))
 

@@ -9,7 +9,7 @@ use Rattle.pg_base.specs.declared.numbers.ColNo.{ColNo}
 use Rattle.std.proofs.lemmas.Option.{get_or_from_slice_get}
 use Rattle.pg_value.specs.declared.value.Value.{Value}
 use Rattle.pg_value.specs.declared.value.Value.TheVariants.{Null}
-use Rattle.opfamily.specs.KeyOrder.{Entry, first_value}
+use Rattle.opfamily.specs.KeyOrder.{IndexEntry, first_value}
 use Rattle.opfamily.specs.declared.classes.IndexKey.{IndexKey}
 use Rattle.heap.specs.Stored.{Values}
 use Rattle.catalog.specs.Indexes.{Index}
@@ -29,11 +29,11 @@ pub range-more : (a n : ℕ) → range_with_len a (n + 1) ≡ range_with_len a n
 range-more a n = range-add a n 1
 
 -- the entries of n rows from number a on, in the order of the rows
-abbrev pub among : Index → List Values → ℕ → ℕ → List Entry
+abbrev pub among : Index → List Values → ℕ → ℕ → List IndexEntry
 among d rows a n = map (entry d rows) (filter (λ k. meets_predicate d.predicate (get_or rows k [])) (range_with_len a n))
 
 -- the entry of a row by its values
-abbrev pub entry_by : Index → Values → ℕ → Entry
+abbrev pub entry_by : Index → Values → ℕ → IndexEntry
 entry_by d row n = record { row = n; keys = map (λ (k : IndexKey). cell row k.col) d.keys; include = map (cell row) d.include }
 
 map-cond : {A B : Type 0} (f : A → B) (b : Bool) (x : A) (l : List A) → map f (cond b (x ∷ l) l) ≡ cond b (f x ∷ map f l) (map f l)
@@ -56,7 +56,7 @@ among-alike d xs ys a zero h = refl
 among-alike d xs ys a (suc n) h =
     let rest = among-alike d xs ys (a + 1) n (λ k low high. h k (omega arith) (omega arith)) in
     among-suc d xs a n
-    ∙ ap₂ (λ (row : Values) (l : List Entry). cond (meets_predicate d.predicate row) (entry_by d row a ∷ l) l) (h a (omega arith) (omega arith)) rest
+    ∙ ap₂ (λ (row : Values) (l : List IndexEntry). cond (meets_predicate d.predicate row) (entry_by d row a ∷ l) l) (h a (omega arith) (omega arith)) rest
     ∙ sym (among-suc d ys a n)
 
 -- of entries of rows below a number all stay below it, of entries of rows from it on none
@@ -68,23 +68,23 @@ filter-left : {A : Type 0} (p : A → Bool) (b : Bool) (x : A) (l : List A) → 
 filter-left p true x l e h = ap (λ c. cond c (x ∷ filter p l) (filter p l)) e ∙ h
 filter-left p false x l e h = h
 
-all-below : (d : Index) (rows : List Values) (a n end : ℕ) → a + n ≤ end → filter (λ (e : Entry). nat_lt e.row end) (among d rows a n) ≡ among d rows a n
+all-below : (d : Index) (rows : List Values) (a n end : ℕ) → a + n ≤ end → filter (λ (e : IndexEntry). nat_lt e.row end) (among d rows a n) ≡ among d rows a n
 all-below d rows a zero end le = refl
 all-below d rows a (suc n) end le =
-    let test : Entry → Bool = λ (e : Entry). nat_lt e.row end in
+    let test : IndexEntry → Bool = λ (e : IndexEntry). nat_lt e.row end in
     ap (filter test) (among-suc d rows a n)
     ∙ filter-kept test (meets_predicate d.predicate (get_or rows a [])) (entry d rows a) (among d rows (a + 1) n) (lt-ltb a end (omega arith)) (all-below d rows (a + 1) n end (omega arith))
     ∙ sym (among-suc d rows a n)
 
-none-below : (d : Index) (rows : List Values) (a n end : ℕ) → end ≤ a → filter (λ (e : Entry). nat_lt e.row end) (among d rows a n) ≡ []
+none-below : (d : Index) (rows : List Values) (a n end : ℕ) → end ≤ a → filter (λ (e : IndexEntry). nat_lt e.row end) (among d rows a n) ≡ []
 none-below d rows a zero end le = refl
 none-below d rows a (suc n) end le =
-    let test : Entry → Bool = λ (e : Entry). nat_lt e.row end in
+    let test : IndexEntry → Bool = λ (e : IndexEntry). nat_lt e.row end in
     ap (filter test) (among-suc d rows a n)
     ∙ filter-left test (meets_predicate d.predicate (get_or rows a [])) (entry d rows a) (among d rows (a + 1) n) (le-ltb a end le) (none-below d rows (a + 1) n end (omega arith))
 
 -- the entries of all rows
-abbrev pub whole : Index → List Values → List Entry
+abbrev pub whole : Index → List Values → List IndexEntry
 whole d rows = among d rows 0 (length rows)
 
 module _ (d : Index) (rows : List Values) (from : ℕ) (le : from ≤ length rows) where
@@ -101,10 +101,10 @@ module _ (d : Index) (rows : List Values) (from : ℕ) (le : from ≤ length row
       (ap (λ a. among d rows a (length rows - from)) start)
 
   -- the entries of rows below a number are those of the first rows
-  pub whole-cut : filter (λ (e : Entry). nat_lt e.row from) (whole d rows) ≡ whole d (take from rows)
+  pub whole-cut : filter (λ (e : IndexEntry). nat_lt e.row from) (whole d rows) ≡ whole d (take from rows)
   whole-cut =
       let long : length (take from rows) ≡ from = length-take-le from rows le in
-      let test : Entry → Bool = λ (e : Entry). nat_lt e.row from in
+      let test : IndexEntry → Bool = λ (e : IndexEntry). nat_lt e.row from in
       ap (filter test) whole-grown
       ∙ filter-append test (whole d (take from rows)) (found d rows from)
       ∙ ap₂ (λ us vs. us ++ vs) (all-below d (take from rows) 0 (length (take from rows)) from (omega arith)) (none-below d rows from (length rows - from) from (omega arith))
@@ -137,10 +137,10 @@ module _ (d : Index) (rows : List Values) (from n : ℕ) (le : from ≤ n) (row 
   pub next-taken : meets_predicate d.predicate row ≡ true → among d rows from (n + 1 - from) ≡ among d rows from (n - from) ++ entry_by d row n ∷ []
   next-taken inside = among-next ∙ ap (λ b. among d rows from (n - from) ++ cond b (entry_by d row n ∷ []) []) inside
 
-  pub entries-left : (es : List Entry) → es ≡ among d rows from (n - from) → (b : Bool) → b ≡ meets_predicate d.predicate row → b ≡ false → es ≡ among d rows from (n + 1 - from)
+  pub entries-left : (es : List IndexEntry) → es ≡ among d rows from (n - from) → (b : Bool) → b ≡ meets_predicate d.predicate row → b ≡ false → es ≡ among d rows from (n + 1 - from)
   entries-left es is b test out = is ∙ sym (next-left (sym test ∙ out))
 
-  pub entries-taken : (es : List Entry) (e : Entry) → es ≡ among d rows from (n - from) → (b : Bool) → b ≡ meets_predicate d.predicate row → b ≡ true → e ≡ entry_by d row n → es ++ e ∷ [] ≡ among d rows from (n + 1 - from)
+  pub entries-taken : (es : List IndexEntry) (e : IndexEntry) → es ≡ among d rows from (n - from) → (b : Bool) → b ≡ meets_predicate d.predicate row → b ≡ true → e ≡ entry_by d row n → es ++ e ∷ [] ≡ among d rows from (n + 1 - from)
   entries-taken es e is b test inside of = ap₂ (λ l x. l ++ x ∷ []) is of ∙ sym (next-taken (sym test ∙ inside))
 
   pub held-left : (hs : List Held) → hs ≡ map held_of (among d rows from (n - from)) → (b : Bool) → b ≡ meets_predicate d.predicate row → b ≡ false → hs ≡ map held_of (among d rows from (n + 1 - from))
@@ -152,7 +152,7 @@ module _ (d : Index) (rows : List Values) (from n : ℕ) (le : from ≤ n) (row 
 
 -- the entry of a row from its parts
 pub entry-made : (d : Index) (row : Values) (n : ℕ) (ks : List IndexKey) (cs : List ColNo) (vs ws : List Value) → ks ≡ d.keys → vs ≡ map (λ (k : IndexKey). cell row k.col) ks → cs ≡ d.include → ws ≡ map (cell row) cs
-    → (e : Entry) → e ≡ record { row = n; keys = vs; include = ws } → e ≡ entry_by d row n
+    → (e : IndexEntry) → e ≡ record { row = n; keys = vs; include = ws } → e ≡ entry_by d row n
 entry-made d row n ks cs vs ws keys values columns included e is =
     is ∙ ap₂ (λ (a b : List Value). record { row = n; keys = a; include = b }) (values ∙ ap (map (λ (k : IndexKey). cell row k.col)) keys) (included ∙ ap (map (cell row)) columns)
 

@@ -8,7 +8,7 @@ use Rattle.pg_base.specs.declared.numbers.TableNo.{TableNo}
 use Rattle.pg_value.specs.Order.{IsOfFamily}
 use Rattle.pg_value.specs.Sorting.{in_order}
 use Rattle.pg_value.specs.declared.columns.Column.{Column}
-use Rattle.opfamily.specs.KeyOrder.{Entry, first_value, key_family}
+use Rattle.opfamily.specs.KeyOrder.{IndexEntry, first_value, key_family}
 use Rattle.opfamily.specs.declared.classes.IndexKey.{IndexKey}
 use Rattle.opfamily.specs.declared.classes.Method.{Method}
 use Rattle.opfamily.specs.declared.classes.Method.TheVariants.{Btree, Hash}
@@ -64,7 +64,7 @@ abbrev pub index_count : Contents → TableNo → ℕ
 index_count c t = length (indexes_of c t)
 
 -- the entries of an index for the rows from a number on, in the order of the rows
-abbrev pub found : Index → List Values → ℕ → List Entry
+abbrev pub found : Index → List Values → ℕ → List IndexEntry
 found d rows from = map (entry d rows) (filter (λ n. meets_predicate d.predicate (slice_index_or rows n [])) (range_with_len from (length rows - from)))
 
 -- the one key of a hash index; what stands where there is none
@@ -73,11 +73,11 @@ first_key [] = record { col = record { 0 = 0 }; class = Int2Ops; descending = fa
 first_key (k ∷ ks) = k
 
 -- an entry with one key, as a hash index holds it
-abbrev pub held_of : Entry → Held
+abbrev pub held_of : IndexEntry → Held
 held_of e = record { value = first_value e.keys; row = e.row }
 
 -- entries as an index has them, each with the values of its columns
-abbrev pub AreIndexEntries : Index → List Entry → Type 0
+abbrev pub AreIndexEntries : Index → List IndexEntry → Type 0
 AreIndexEntries d es = All (IsEntryOf d.keys d.include) es
 
 -- rows whose values are all of the family of a hash index's one key

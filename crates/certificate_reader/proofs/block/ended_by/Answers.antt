@@ -5,7 +5,7 @@ use Rattle.std.proofs.lemmas.List.{length-map}
 use Rattle.sql_query.specs.declared.window.Window.{Window}
 use Rattle.plan_check.specs.Certificates.{Entry}
 use Rattle.plan_check.specs.Views.{entry, side}
-use Rattle.certificate_reader.specs.Faults.{IsFaultLine, IsText}
+use Rattle.certificate_reader.specs.Faults.{IsFaultLine, IsCertificateText}
 use Rattle.certificate_reader.specs.Reading.{IsBlockRead, head_lines}
 use Rattle.certificate_reader.proofs.PlainLemmas.{plain-line}
 use Rattle.certificate_reader.proofs.ReadingLemmas.{best-behind, best-read, fault-is-none, few-entries, few-heads}

@@ -7,7 +7,7 @@ use Rattle.expr_reader.specs.Conditions.{next}
 use Rattle.catalog.specs.Contents.{table_at}
 use Rattle.catalog.specs.Indexes.{type_at}
 use Rattle.ddl_reader.specs.declared.ddl.Read.{Read}
-use Rattle.ddl_reader.specs.Statistics.{sizes_reading, statistics_of, column_of_name, commons_of, bounds_of}
+use Rattle.ddl_reader.specs.Statistics.{sizes_reading, statistics_reading, column_of_name, commons_of, bounds_of}
 use Rattle.ddl_reader.specs.AsMeant.{IsAsMeant, words_of_sizes, words_of_column}
 use Rattle.ddl_reader.specs.Tables.{Reading}
 use Rattle.ddl_reader.specs.Readings.{reading}
@@ -24,7 +24,7 @@ returns-then-takes_mark-clause-column c = λ t m x a d b n cs h rest commons bou
     let table = table-told cat t c.in_ok-title.title (Ok c.in_ok-table.table) one.0 c.in_ok-table.ensures.told in
     subst
     (λ (k : Result TableNo Fault). IsAsMeant Read Reading reading c.column.result
-    (next k (λ i. next (column_of_name cat i x) (λ col. statistics_of (type_at (table_at cat i).columns col) i col d n (commons_of cs) (bounds_of h)))))
+    (next k (λ i. next (column_of_name cat i x) (λ col. statistics_reading (type_at (table_at cat i).columns col) i col d n (commons_of cs) (bounds_of h)))))
     (sym table) (c.column.ensures x a d b n cs h rest commons bounds (ap (drop 1) (sym took ∙ one.1)))
 
 pub sizes-requires : goal.sizes-requires

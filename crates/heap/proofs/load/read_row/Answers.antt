@@ -4,7 +4,7 @@ use Rattle.std.proofs.lemmas.Result.{err_from_is_err_and}
 use Rattle.csv.specs.Records.{fields_of}
 use Rattle.pg_value.specs.declared.value.Value.{Value}
 use Rattle.heap.specs.declared.fault.CopyFault.{CopyFault}
-use Rattle.heap.specs.Loading.{appended, joined, values_from}
+use Rattle.heap.specs.Loading.{appended, first_fault_or_all, values_from}
 use Rattle.heap.specs.Stored.{Values}
 use Rattle.heap.proofs.Rows.{row_full, row_arity, row_values, values-more, values-all, prepended, prepended-more, prepended-none, zip-more}
 use Rattle.heap.proofs.AppendedLemmas.{appended-none, appended-push, kept-none, kept-push}
@@ -25,7 +25,7 @@ returns-in_err-value-clause-fault c =
     row_values c.args.columns.now c.args.room (c.args.before + 1) fields (omega arith) (omega (arith, c.len.ensures))
     ∙ c.loop-col.invariant.values
     ∙ ap (prepended (appended c.args.values.now.items c.loop-col.values.items)) (values-more (c.args.before + 1) c.loop-col.col c.args.columns.now fields _ c.text_at-text.result.now c.loop-col-test.true within c.text_at-text.ensures
-    ∙ ap (λ (r : Result Value CopyFault). joined r (values_from (c.args.before + 1) (c.loop-col.col + 1) (drop (c.loop-col.col + 1) c.args.columns.now) (drop (c.loop-col.col + 1) fields))) (c.in_err-value.ensures.fault h)))
+    ∙ ap (λ (r : Result Value CopyFault). first_fault_or_all r (values_from (c.args.before + 1) (c.loop-col.col + 1) (drop (c.loop-col.col + 1) c.args.columns.now) (drop (c.loop-col.col + 1) fields))) (c.in_err-value.ensures.fault h)))
 
 pub loop-col-init : goal.loop-col-init
 loop-col-init c =
@@ -50,7 +50,7 @@ loop-col-preserved c =
       kept = kept-push old now (c.in_ok-value.value ∷ []) c.loop-col.invariant.kept;
       values = c.loop-col.invariant.values
           ∙ ap (prepended (appended old now)) (values-more (c.args.before + 1) c.loop-col.col c.args.columns.now fields _ c.text_at-text.result.now c.loop-col-test.true within c.text_at-text.ensures
-          ∙ ap (λ (r : Result Value CopyFault). joined r rest) c.in_ok-value.ensures.value)
+          ∙ ap (λ (r : Result Value CopyFault). first_fault_or_all r rest) c.in_ok-value.ensures.value)
           ∙ prepended-more (appended old now) c.in_ok-value.value rest
           ∙ ap (λ (l : Values). prepended l rest) (sym put);
       lawful = rw put (zip-more c.args.columns.now (appended old now) c.loop-col.col _ c.in_ok-value.value c.loop-col-test.true c.loop-col.invariant.lawful c.in_ok-value.ensures.lawful);

@@ -1,6 +1,6 @@
 use Rattle.std.proofs.Common.{◌+◌, ◌∙◌, ℕ, List, [], ap, ap₂, sym}
 use Rattle.std.specs.Prelude.{option_map}
-use Rattle.plan_space.specs.Numbered.{Pair, nodes}
+use Rattle.plan_space.specs.Numbered.{CostAndRows, nodes}
 use Rattle.plan_reader.specs.Beneath.{IsBehind}
 use Rattle.plan_reader.specs.Written.{written_beneath}
 use Rattle.plan_tree.specs.Plans.{merge, nest, sort}
@@ -54,7 +54,7 @@ returns-in-Sort-clause-is t c =
 
 pub returns-in-Sort-clause-only : goal.returns-in-Sort-clause-only
 returns-in-Sort-clause-only t c =
-    sort-same c.args.cat.now c.args.q.now c.args.depth (plan c.args.p.now) c.in_ok-first.first.now c.args.text.now c.args.numbers.now c.in_ok-first.numbers.now c.in-Sort.keys (plan c.deref.result.now) c.in_ok-left.left.now (option_map (λ l. l.now) c.behind_line.result) (option_map {U = List ℕ × List Pair} (λ s. (s.0.now, s.1.now)) c.behind_plan.result) (ap plan c.in-Sort.is ∙ ap (λ y. sort c.in-Sort.keys (plan y)) (sym c.deref.ensures)) c.in_ok-first.ensures.cases.0 c.behind_line.ensures.only (ap (option_map (λ l. l.now)) c.in_ok-left.was) c.behind_plan.ensures.only
+    sort-same c.args.cat.now c.args.q.now c.args.depth (plan c.args.p.now) c.in_ok-first.first.now c.args.text.now c.args.numbers.now c.in_ok-first.numbers.now c.in-Sort.keys (plan c.deref.result.now) c.in_ok-left.left.now (option_map (λ l. l.now) c.behind_line.result) (option_map {U = List ℕ × List CostAndRows} (λ s. (s.0.now, s.1.now)) c.behind_plan.result) (ap plan c.in-Sort.is ∙ ap (λ y. sort c.in-Sort.keys (plan y)) (sym c.deref.ensures)) c.in_ok-first.ensures.cases.0 c.behind_line.ensures.only (ap (option_map (λ l. l.now)) c.in_ok-left.was) c.behind_plan.ensures.only
 
 pub returns-in_ok-left-in-Nest-clause-is : goal.returns-in_ok-left-in-Nest-clause-is
 returns-in_ok-left-in-Nest-clause-is t c =
@@ -62,11 +62,11 @@ returns-in_ok-left-in-Nest-clause-is t c =
 
 pub returns-in_ok-left-in-Nest-clause-only : goal.returns-in_ok-left-in-Nest-clause-only
 returns-in_ok-left-in-Nest-clause-only t c =
-    join-same c.args.cat.now c.args.q.now c.args.depth (plan c.args.p.now) c.in_ok-first.first.now c.args.text.now c.args.numbers.now c.in_ok-first.numbers.now (plan c.deref-in-Nest.result.now) (plan c.deref-in-Nest-2.result.now) c.in_ok-left.left.now c.in_ok-left-in-Nest.left.now c.in_ok-left-in-Nest.numbers.now (option_map (λ l. l.now) c.behind_line.result) (option_map {U = List ℕ × List Pair} (λ s. (s.0.now, s.1.now)) c.behind_plan-in-Nest.result) (option_map {U = List ℕ × List Pair} (λ s. (s.0.now, s.1.now)) c.behind_plan-in-Nest-2.result) (nest-join c.args.cat.now c.args.q.now c.args.depth (plan c.args.p.now) c.in_ok-first.first.now c.args.text.now c.args.numbers.now c.in_ok-first.numbers.now (plan c.deref-in-Nest.result.now) (plan c.deref-in-Nest-2.result.now) (ap plan c.in-Nest.is ∙ ap₂ (λ y z. nest (plan y) (plan z)) (sym c.deref-in-Nest.ensures) (sym c.deref-in-Nest-2.ensures))) c.in_ok-first.ensures.cases.0 c.behind_line.ensures.only (ap (option_map (λ l. l.now)) c.in_ok-left.was) c.behind_plan-in-Nest.ensures.only (ap (option_map {U = List ℕ × List Pair} (λ s. (s.0.now, s.1.now))) c.in_ok-left-in-Nest.was) c.behind_plan-in-Nest-2.ensures.only
+    join-same c.args.cat.now c.args.q.now c.args.depth (plan c.args.p.now) c.in_ok-first.first.now c.args.text.now c.args.numbers.now c.in_ok-first.numbers.now (plan c.deref-in-Nest.result.now) (plan c.deref-in-Nest-2.result.now) c.in_ok-left.left.now c.in_ok-left-in-Nest.left.now c.in_ok-left-in-Nest.numbers.now (option_map (λ l. l.now) c.behind_line.result) (option_map {U = List ℕ × List CostAndRows} (λ s. (s.0.now, s.1.now)) c.behind_plan-in-Nest.result) (option_map {U = List ℕ × List CostAndRows} (λ s. (s.0.now, s.1.now)) c.behind_plan-in-Nest-2.result) (nest-join c.args.cat.now c.args.q.now c.args.depth (plan c.args.p.now) c.in_ok-first.first.now c.args.text.now c.args.numbers.now c.in_ok-first.numbers.now (plan c.deref-in-Nest.result.now) (plan c.deref-in-Nest-2.result.now) (ap plan c.in-Nest.is ∙ ap₂ (λ y z. nest (plan y) (plan z)) (sym c.deref-in-Nest.ensures) (sym c.deref-in-Nest-2.ensures))) c.in_ok-first.ensures.cases.0 c.behind_line.ensures.only (ap (option_map (λ l. l.now)) c.in_ok-left.was) c.behind_plan-in-Nest.ensures.only (ap (option_map {U = List ℕ × List CostAndRows} (λ s. (s.0.now, s.1.now))) c.in_ok-left-in-Nest.was) c.behind_plan-in-Nest-2.ensures.only
 
 pub returns-in_err-left-in-Nest-clause-only : goal.returns-in_err-left-in-Nest-clause-only
 returns-in_err-left-in-Nest-clause-only t c =
-    λ ns more rest count fits pairs e. absurd (join-none c.args.cat.now c.args.q.now c.args.depth (plan c.args.p.now) c.in_ok-first.first.now c.args.text.now c.args.numbers.now c.in_ok-first.numbers.now (plan c.deref-in-Nest.result.now) (plan c.in-Nest.inner.value) c.in_ok-left.left.now (option_map (λ l. l.now) c.behind_line.result) (option_map {U = List ℕ × List Pair} (λ s. (s.0.now, s.1.now)) c.behind_plan-in-Nest.result) (nest-join c.args.cat.now c.args.q.now c.args.depth (plan c.args.p.now) c.in_ok-first.first.now c.args.text.now c.args.numbers.now c.in_ok-first.numbers.now (plan c.deref-in-Nest.result.now) (plan c.in-Nest.inner.value) (ap plan c.in-Nest.is ∙ ap (λ y. nest (plan y) (plan c.in-Nest.inner.value)) (sym c.deref-in-Nest.ensures))) c.in_ok-first.ensures.cases.0 c.behind_line.ensures.only (ap (option_map (λ l. l.now)) c.in_ok-left.was) c.behind_plan-in-Nest.ensures.only (ap (option_map {U = List ℕ × List Pair} (λ s. (s.0.now, s.1.now))) c.in_err-left-in-Nest.was) ns more rest count fits pairs e)
+    λ ns more rest count fits pairs e. absurd (join-none c.args.cat.now c.args.q.now c.args.depth (plan c.args.p.now) c.in_ok-first.first.now c.args.text.now c.args.numbers.now c.in_ok-first.numbers.now (plan c.deref-in-Nest.result.now) (plan c.in-Nest.inner.value) c.in_ok-left.left.now (option_map (λ l. l.now) c.behind_line.result) (option_map {U = List ℕ × List CostAndRows} (λ s. (s.0.now, s.1.now)) c.behind_plan-in-Nest.result) (nest-join c.args.cat.now c.args.q.now c.args.depth (plan c.args.p.now) c.in_ok-first.first.now c.args.text.now c.args.numbers.now c.in_ok-first.numbers.now (plan c.deref-in-Nest.result.now) (plan c.in-Nest.inner.value) (ap plan c.in-Nest.is ∙ ap (λ y. nest (plan y) (plan c.in-Nest.inner.value)) (sym c.deref-in-Nest.ensures))) c.in_ok-first.ensures.cases.0 c.behind_line.ensures.only (ap (option_map (λ l. l.now)) c.in_ok-left.was) c.behind_plan-in-Nest.ensures.only (ap (option_map {U = List ℕ × List CostAndRows} (λ s. (s.0.now, s.1.now))) c.in_err-left-in-Nest.was) ns more rest count fits pairs e)
 
 pub returns-in_ok-left-in-Merge-clause-is : goal.returns-in_ok-left-in-Merge-clause-is
 returns-in_ok-left-in-Merge-clause-is t c =
@@ -74,8 +74,8 @@ returns-in_ok-left-in-Merge-clause-is t c =
 
 pub returns-in_ok-left-in-Merge-clause-only : goal.returns-in_ok-left-in-Merge-clause-only
 returns-in_ok-left-in-Merge-clause-only t c =
-    join-same c.args.cat.now c.args.q.now c.args.depth (plan c.args.p.now) c.in_ok-first.first.now c.args.text.now c.args.numbers.now c.in_ok-first.numbers.now (plan c.deref-in-Merge.result.now) (plan c.deref-in-Merge-2.result.now) c.in_ok-left.left.now c.in_ok-left-in-Merge.left.now c.in_ok-left-in-Merge.numbers.now (option_map (λ l. l.now) c.behind_line.result) (option_map {U = List ℕ × List Pair} (λ s. (s.0.now, s.1.now)) c.behind_plan-in-Merge.result) (option_map {U = List ℕ × List Pair} (λ s. (s.0.now, s.1.now)) c.behind_plan-in-Merge-2.result) (merge-join c.args.cat.now c.args.q.now c.args.depth (plan c.args.p.now) c.in_ok-first.first.now c.args.text.now c.args.numbers.now c.in_ok-first.numbers.now c.in-Merge.keys (plan c.deref-in-Merge.result.now) (plan c.deref-in-Merge-2.result.now) (ap plan c.in-Merge.is ∙ ap₂ (λ y z. merge c.in-Merge.keys (plan y) (plan z)) (sym c.deref-in-Merge.ensures) (sym c.deref-in-Merge-2.ensures))) c.in_ok-first.ensures.cases.0 c.behind_line.ensures.only (ap (option_map (λ l. l.now)) c.in_ok-left.was) c.behind_plan-in-Merge.ensures.only (ap (option_map {U = List ℕ × List Pair} (λ s. (s.0.now, s.1.now))) c.in_ok-left-in-Merge.was) c.behind_plan-in-Merge-2.ensures.only
+    join-same c.args.cat.now c.args.q.now c.args.depth (plan c.args.p.now) c.in_ok-first.first.now c.args.text.now c.args.numbers.now c.in_ok-first.numbers.now (plan c.deref-in-Merge.result.now) (plan c.deref-in-Merge-2.result.now) c.in_ok-left.left.now c.in_ok-left-in-Merge.left.now c.in_ok-left-in-Merge.numbers.now (option_map (λ l. l.now) c.behind_line.result) (option_map {U = List ℕ × List CostAndRows} (λ s. (s.0.now, s.1.now)) c.behind_plan-in-Merge.result) (option_map {U = List ℕ × List CostAndRows} (λ s. (s.0.now, s.1.now)) c.behind_plan-in-Merge-2.result) (merge-join c.args.cat.now c.args.q.now c.args.depth (plan c.args.p.now) c.in_ok-first.first.now c.args.text.now c.args.numbers.now c.in_ok-first.numbers.now c.in-Merge.keys (plan c.deref-in-Merge.result.now) (plan c.deref-in-Merge-2.result.now) (ap plan c.in-Merge.is ∙ ap₂ (λ y z. merge c.in-Merge.keys (plan y) (plan z)) (sym c.deref-in-Merge.ensures) (sym c.deref-in-Merge-2.ensures))) c.in_ok-first.ensures.cases.0 c.behind_line.ensures.only (ap (option_map (λ l. l.now)) c.in_ok-left.was) c.behind_plan-in-Merge.ensures.only (ap (option_map {U = List ℕ × List CostAndRows} (λ s. (s.0.now, s.1.now))) c.in_ok-left-in-Merge.was) c.behind_plan-in-Merge-2.ensures.only
 
 pub returns-in_err-left-in-Merge-clause-only : goal.returns-in_err-left-in-Merge-clause-only
 returns-in_err-left-in-Merge-clause-only t c =
-    λ ns more rest count fits pairs e. absurd (join-none c.args.cat.now c.args.q.now c.args.depth (plan c.args.p.now) c.in_ok-first.first.now c.args.text.now c.args.numbers.now c.in_ok-first.numbers.now (plan c.deref-in-Merge.result.now) (plan c.in-Merge.inner.value) c.in_ok-left.left.now (option_map (λ l. l.now) c.behind_line.result) (option_map {U = List ℕ × List Pair} (λ s. (s.0.now, s.1.now)) c.behind_plan-in-Merge.result) (merge-join c.args.cat.now c.args.q.now c.args.depth (plan c.args.p.now) c.in_ok-first.first.now c.args.text.now c.args.numbers.now c.in_ok-first.numbers.now c.in-Merge.keys (plan c.deref-in-Merge.result.now) (plan c.in-Merge.inner.value) (ap plan c.in-Merge.is ∙ ap (λ y. merge c.in-Merge.keys (plan y) (plan c.in-Merge.inner.value)) (sym c.deref-in-Merge.ensures))) c.in_ok-first.ensures.cases.0 c.behind_line.ensures.only (ap (option_map (λ l. l.now)) c.in_ok-left.was) c.behind_plan-in-Merge.ensures.only (ap (option_map {U = List ℕ × List Pair} (λ s. (s.0.now, s.1.now))) c.in_err-left-in-Merge.was) ns more rest count fits pairs e)
+    λ ns more rest count fits pairs e. absurd (join-none c.args.cat.now c.args.q.now c.args.depth (plan c.args.p.now) c.in_ok-first.first.now c.args.text.now c.args.numbers.now c.in_ok-first.numbers.now (plan c.deref-in-Merge.result.now) (plan c.in-Merge.inner.value) c.in_ok-left.left.now (option_map (λ l. l.now) c.behind_line.result) (option_map {U = List ℕ × List CostAndRows} (λ s. (s.0.now, s.1.now)) c.behind_plan-in-Merge.result) (merge-join c.args.cat.now c.args.q.now c.args.depth (plan c.args.p.now) c.in_ok-first.first.now c.args.text.now c.args.numbers.now c.in_ok-first.numbers.now c.in-Merge.keys (plan c.deref-in-Merge.result.now) (plan c.in-Merge.inner.value) (ap plan c.in-Merge.is ∙ ap (λ y. merge c.in-Merge.keys (plan y) (plan c.in-Merge.inner.value)) (sym c.deref-in-Merge.ensures))) c.in_ok-first.ensures.cases.0 c.behind_line.ensures.only (ap (option_map (λ l. l.now)) c.in_ok-left.was) c.behind_plan-in-Merge.ensures.only (ap (option_map {U = List ℕ × List CostAndRows} (λ s. (s.0.now, s.1.now))) c.in_err-left-in-Merge.was) ns more rest count fits pairs e)

@@ -17,3 +17,4 @@ pub use Rattle.certificate_laws.proofs.NodeLemmas as certificate_laws_NodeLemmas
 pub use Rattle.certificate_laws.proofs.EntryLemmas as certificate_laws_EntryLemmas
 pub use Rattle.certificate_laws.specs.explain_laws_SplitLemmas as explain_laws_SplitLemmas
 pub use Rattle.certificate_laws.specs.certificate_text_Texts as certificate_text_Texts
+pub use Rattle.certificate_laws.proofs.TableLemmas as certificate_laws_TableLemmas

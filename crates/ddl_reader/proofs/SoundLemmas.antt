@@ -158,7 +158,7 @@ module _ (cat : Contents) (text : List ℕ) where
   statement-sound r (column_statistics k n c d z m h e) lawful named placed low means =
       column-sound cat text n c d z (commons_of m) (bounds_of h) r lawful (places-within (length text) d z m h (words_of_ending e) low.1.1.1.1.1.0 low.1.1.1.1.1.1.1.0 low.1.1.1.1.1.1.1.1) means
 
-  meaning-sound : (tokens : List Token) (from : ℕ) (r : Reading) → IsLawful cat → AreWords text from tokens → IsMeaning cat text tokens (Ok r) → IsSound cat text r
+  pub meaning-sound : (tokens : List Token) (from : ℕ) (r : Reading) → IsLawful cat → AreWords text from tokens → IsMeaning cat text tokens (Ok r) → IsSound cat text r
   meaning-sound tokens from r lawful w m =
       let x = m.statement in
       let words = m.spelled.words in

@@ -1,10 +1,11 @@
 -- The text of a key tells its class.
-use Rattle.std.proofs.Common.{◌≡◌, ◌<◌, ℕ, Bool, true, false, not, cond, List, [], ◌∷◌, ◌++◌, codes, get_or, drop, length, map, refl, sym, ◌∙◌, ap, ap₂, subst, append_assoc, inl, inr, arith}
+use Rattle.std.proofs.Common.{◌≡◌, ◌<◌, ◌==◌, ◌&&◌, ℕ, Bool, true, false, not, cond, List, [], ◌∷◌, ◌++◌, codes, get_or, drop, length, map, refl, sym, ◌∙◌, ap, ap₂, subst, append_assoc, inl, inr, arith}
 use Rattle.std.specs.Prelude.{Option, None, Some, Contains, filter, filter_map, nat_eq}
 use Rattle.std.specs.List.{AllByRecursion}
 use Rattle.std.specs.Option.{option_or}
 use Rattle.std.proofs.lemmas.Bool.{and_from, true≢false, lt-ltb}
 use Rattle.std.proofs.lemmas.List.{append_cancel_left, get_or_default}
+use Rattle.pg_base.specs.Names.{IsName}
 use Rattle.pg_base.specs.declared.numbers.ColNo.{ColNo}
 use Rattle.pg_base.specs.declared.numbers.RelNo.{RelNo}
 use Rattle.pg_value.specs.declared.operators.Family.{Family}
@@ -75,39 +76,26 @@ stops-tail families.IntAbs d n s h = refl
 stops-tail families.Text d n s h = stops-direction d n s h
 stops-tail families.Bool d n s h = stops-direction d n s h
 
--- the second byte of a direction, or of what stands behind a key
-abbrev direction_byte : Bool → Bool → ℕ
-direction_byte true n = 68
-direction_byte false true = 78
-direction_byte false false = 32
+-- a text begins as the family of a key does: with a space before `i`
+abbrev pub begins_family : List ℕ → Bool
+begins_family text = get_or text 0 0 == 32 && get_or text 1 0 == 105
 
-direction-second : (d n : Bool) (s : List ℕ) → get_or s 1 0 ≡ 32 → get_or (direction_text d n ++ s) 1 0 ≡ direction_byte d n
-direction-second true true s h = refl
-direction-second true false s h = refl
-direction-second false true s h = refl
-direction-second false false s h = h
+direction-family : (d n : Bool) (s : List ℕ) → begins_family s ≡ false → begins_family (direction_text d n ++ s) ≡ false
+direction-family true true s h = refl
+direction-family true false s h = refl
+direction-family false true s h = refl
+direction-family false false s h = h
 
-tail-second : (f : Family) (d n : Bool) (s : List ℕ) → get_or s 1 0 ≡ 32 → get_or ((family_text f ++ direction_text d n) ++ s) 1 0 ≡ cond (is_abs f) 105 (direction_byte d n)
-tail-second families.Integer d n s h = direction-second d n s h
-tail-second families.IntAbs d n s h = refl
-tail-second families.Text d n s h = direction-second d n s h
-tail-second families.Bool d n s h = direction-second d n s h
+tail-family : (f : Family) (d n : Bool) (s : List ℕ) → begins_family s ≡ false → begins_family ((family_text f ++ direction_text d n) ++ s) ≡ is_abs f
+tail-family families.Integer d n s h = direction-family d n s h
+tail-family families.IntAbs d n s h = refl
+tail-family families.Text d n s h = direction-family d n s h
+tail-family families.Bool d n s h = direction-family d n s h
 
-no-abs : (d n : Bool) → 105 ≡ direction_byte d n → ⊥
-no-abs true n e = omega (arith, e)
-no-abs false true e = omega (arith, e)
-no-abs false false e = omega (arith, e)
-
-abs-same : (a b d n e m : Bool) → cond a 105 (direction_byte d n) ≡ cond b 105 (direction_byte e m) → a ≡ b
-abs-same true true d n e m h = refl
-abs-same true false d n e m h = absurd (no-abs e m h)
-abs-same false true d n e m h = absurd (no-abs d n (sym h))
-abs-same false false d n e m h = refl
-
--- what may stand behind a key: a comma and a space, or two spaces
+-- what may stand behind a key: a text that goes on no name and begins no family, as a comma or two spaces
 pub record IsNext (s : List ℕ) : Type 0 where
   pub stops_name : stops s ≡ true
-  pub space : get_or s 1 0 ≡ 32
+  pub no_family : begins_family s ≡ false
 
 -- a class of a table with a first member inside a set
 pub record IsShownKey (t : ClassTable) (set : Set) (n : ℕ) : Type 0 where
@@ -178,8 +166,8 @@ module _ (c : Contents) (q : Query) (lawful : IsLawful c) (bound : IsWellBound c
       (ap (λ (z : List ℕ). drop 1 z) one.1) in
       let rel : x.rel ≡ y.rel = alias-same c q.range bound.range x.rel y.rel cx.relation cy.relation one.0 in
       let same : x ≡ y = same-column x y rel cx cy two.0 in
-      let abs = abs-same (is_abs K.family) (is_abs L.family) K.descending K.nulls_first L.descending L.nulls_first
-      (sym (tail-second K.family K.descending K.nulls_first s hs.space) ∙ ap (λ (z : List ℕ). get_or z 1 0) two.1 ∙ tail-second L.family L.descending L.nulls_first t ht.space) in
+      let abs : is_abs K.family ≡ is_abs L.family =
+      sym (tail-family K.family K.descending K.nulls_first s hs.no_family) ∙ ap begins_family two.1 ∙ tail-family L.family L.descending L.nulls_first t ht.no_family in
       let P : ColRef → Type 0 = λ z. IsIn z K.members in
       let number : n ≡ m = class-same n m y k.low l.low (subst P same (shown-in a n k)) (shown-in b m l) abs in
       (number, append_cancel_left (tail_text L) s t (sym (ap (λ (j : ℕ). tail_text (class_at q.classes.classes j) ++ s) number) ∙ two.1))
@@ -191,9 +179,17 @@ module _ (c : Contents) (q : Query) (lawful : IsLawful c) (bound : IsWellBound c
           let col : x.col ≡ y.col = column-same c lawful (table_of q.range x) x.col y.col (relation-table c q.range bound.range x.rel hx.relation) hx.column (subst P (sym rel) hy.column) named in
           ap₂ (λ (r : RelNo) (k : ColNo). let z : ColRef = record { rel = r; col = k } in z) rel col
 
+  -- no key begins where a name stops
+  pub key-begins : (set : Set) (n : ℕ) (s t : List ℕ) → IsShownKey q.classes set n → stops s ≡ true → s ≡ key_text c q set n ++ t → ⊥
+  key-begins set n s t k hs e =
+      let x = k.member in
+      let alias = alias-name c q.range bound.range x.rel (shown-column set n k).relation in
+      let one = split [] (alias_at x) s (46 ∷ (name_of x ++ (tail_text (class_at q.classes.classes n) ++ t))) refl (name-word (alias_at x) alias) hs refl (e ∙ key-is set n k t) in
+      subst IsName (sym one.0) alias
+
   next-keys : (a : Set) (ks : Keys) (s : List ℕ) → IsNext (with_commas (codes ", ") (map (key_text c q a) ks) ++ 32 ∷ 32 ∷ s)
-  next-keys a [] s = record { stops_name = refl; space = refl }
-  next-keys a (k ∷ ks) s = record { stops_name = refl; space = refl }
+  next-keys a [] s = record { stops_name = refl; no_family = refl }
+  next-keys a (k ∷ ks) s = record { stops_name = refl; no_family = refl }
 
   more-keys : (a b : Set) (ks ls : Keys) (s t : List ℕ) → AreShownKeys q a ks → AreShownKeys q b ls →
       with_commas (codes ", ") (map (key_text c q a) ks) ++ 32 ∷ 32 ∷ s ≡ with_commas (codes ", ") (map (key_text c q b) ls) ++ 32 ∷ 32 ∷ t → (ks ≡ ls) × (s ≡ t)

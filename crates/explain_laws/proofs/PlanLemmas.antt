@@ -306,3 +306,11 @@ module _ (c : Contents) (q : Query) where
     -- plans of which the same is printed are one: the line of LIMIT and OFFSET tells at most their prices apart
     pub printed-tells : (a b : Plan) → IsShown c q a → IsShown c q b → explained_text c q a ≡ explained_text c q b → a ≡ b
     printed-tells a b h g e = text-tells a b h g (behind-line q.window a b (plan_text c q a) (plan_text c q b) e)
+
+    -- what is printed of a plan tells it also where more stands behind that begins no line of a plan
+    pub printed-split : (a b : Plan) (x y : List ℕ) → IsShown c q a → IsShown c q b → IsShallow (first_depth q.window) x → IsShallow (first_depth q.window) y → explained_text c q a ++ x ≡ explained_text c q b ++ y → (a ≡ b) × (x ≡ y)
+    printed-split a b x y h g sx sy e =
+        let A = line_by c q q.window a in
+        let B = line_by c q q.window b in
+        let behind = behind-line q.window a b (plan_text c q a ++ x) (plan_text c q b ++ y) (sym (append_assoc A (plan_text c q a) x) ∙ e ∙ append_assoc B (plan_text c q b) y) in
+        plan-split a b (first_depth q.window) x y (shown-tells a h) (shown-tells b g) sx sy behind

@@ -239,7 +239,7 @@ module _ (cat : Contents) (lawful : IsLawful cat) (t : TableNo) (there : IsTable
         }
 
 module _ (cat : Contents) (text : List ℕ) (lawful : IsLawful cat) where
-  cand-sound : (start : Token) (x : Cand) (r : IndexMeant) → AreNamed (words_of_cand x) → AreWithin (length text) (words_of_cand x) → meaning_of_cand cat start x ≡ Ok r → IsSound cat text r
+  pub cand-sound : (start : Token) (x : Cand) (r : IndexMeant) → AreNamed (words_of_cand x) → AreWithin (length text) (words_of_cand x) → meaning_of_cand cat start x ≡ Ok r → IsSound cat text r
   cand-sound start (cand_on n o t u p x xs m c w) r named low is =
       let table = next-done (table_of_name cat t) _ r is in
       let there = known-table cat text (bytes_of t) table.value _ refl (known-some _ (token_of t) (table_named cat (bytes_of t)) table.value table.first) in

@@ -157,18 +157,21 @@ module _ (c : Contents) (q : Query) (block : List ℕ) (lawful : IsLawful c) (bo
   faults-one : (x y : List ℕ) → IsFaulted c q block x → IsFaulted c q block y → x ≡ y
   faults-one x y f g = f.told ∙ (ap (λ (j : Judged). invalid_line (reason_text j)) (found-of f.plan g.plan f.numbers g.numbers f.judged g.judged f.read g.read f.holds g.holds) ∙ sym g.told)
 
-  lines-one : (x y : List ℕ) → IsRefusedPlan c q block x → IsRefusedPlan c q block y → x ≡ y
+  pub lines-one : (x y : List ℕ) → IsRefusedPlan c q block x → IsRefusedPlan c q block y → x ≡ y
   lines-one x y (unread a e) (unread b d) = e ∙ sym d
   lines-one x y (unread a e) (faulted g) = absurd (a g.plan g.numbers g.read)
   lines-one x y (faulted f) (unread b d) = absurd (b f.plan f.numbers f.read)
   lines-one x y (faulted f) (faulted g) = faults-one x y f g
 
-  never-both : (x : List ℕ) (p : Plan) → IsRefusedPlan c q block x → IsGoodPlan c q block p → ⊥
+  pub never-both : (x : List ℕ) (p : Plan) → IsRefusedPlan c q block x → IsGoodPlan c q block p → ⊥
   never-both x p (unread a e) g = a p g.numbers g.read
   never-both x p (faulted f) g = subst IsNotGood (found-of f.plan p f.numbers g.numbers f.judged Good f.read g.read f.holds g.good) f.fault
+
+  pub plans-one : (p o : Plan) → IsGoodPlan c q block p → IsGoodPlan c q block o → p ≡ o
+  plans-one p o h k = (one-plan c q block p o h.numbers k.numbers lawful bound h.read k.read).0
 
   pub told-one : (t u : Told) → IsTold c q block t → IsTold c q block u → IsSameTold t u
   told-one (tellings.Line a) (tellings.Line b) h k = lines-one a.items b.items h k
   told-one (tellings.Line a) (tellings.Plan p) h k = never-both a.items (plan p) h k
   told-one (tellings.Plan p) (tellings.Line b) h k = never-both b.items (plan p) k h
-  told-one (tellings.Plan p) (tellings.Plan o) h k = (one-plan c q block (plan p) (plan o) h.numbers k.numbers lawful bound h.read k.read).0
+  told-one (tellings.Plan p) (tellings.Plan o) h k = plans-one (plan p) (plan o) h k

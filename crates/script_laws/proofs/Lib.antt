@@ -1,0 +1,12 @@
+pub mod AdviseLemmas
+pub mod ReadLemmas
+pub mod ReachedLemmas
+pub mod RightLemmas
+pub mod AdviceOneLemmas
+pub mod VerdictOneLemmas
+pub mod OneReplyLemmas
+pub mod CertTextLemmas
+pub mod TabledLemmas
+pub mod TokenLemmas
+pub mod ShownLemmas
+pub mod GroupLemmas

@@ -1,0 +1,5 @@
+pub mod LoadedLemmas
+pub mod AfterLemmas
+pub mod DefinedLemmas
+pub mod JoinedLemmas
+pub mod BoundLemmas

@@ -1,0 +1,2 @@
+pub mod LawfulWorlds
+pub mod Definitions

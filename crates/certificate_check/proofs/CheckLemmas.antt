@@ -43,9 +43,10 @@ module _ (c : Contents) (q : Query) (t : Certificate) where
   ]
 
   -- scans, those by a bitmap, and joins are all candidates
-  pub covered : ArePlainScansServed c q t → AreAllBitmapsServed c q t → (r : Option (Plain × Uncovered)) → MatchOption r (AreJoinsServed c q t) (λ x. IsOpen c q t x.0 x.1) → MatchOption r (AreCovered c q t) (λ x. IsOpen c q t x.0 x.1)
-  covered plain bitmaps None joins = all-covered plain bitmaps joins
-  covered plain bitmaps (Some x) h = h
+  pub covered : ArePlainScansServed c q t → AreAllBitmapsServed c q t → (r : Option (Plain × Uncovered)) (S : Plain × Uncovered → Type 0) → ((x : Plain × Uncovered) → S x → IsOpen c q t x.0 x.1) →
+      MatchOption r (AreJoinsServed c q t) S → MatchOption r (AreCovered c q t) (λ x. IsOpen c q t x.0 x.1)
+  covered plain bitmaps None S says joins = all-covered plain bitmaps joins
+  covered plain bitmaps (Some x) S says h = says x h
 
   -- where the best plan is the least, the certificate is a table
   pub valid : AreWhole c q t → AreUndominated c q t → AreCovered c q t → ((best : HasBest c q t) → IsLeastAmong c q (IsOver c q t) best.plan) → IsPlanTable c q t

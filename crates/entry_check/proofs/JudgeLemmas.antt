@@ -14,9 +14,11 @@ use Rattle.plan_check.specs.Tables.{HasPlanNumbers, HasItsPlan, IsEntryAt, IsSta
 use Rattle.plan_check.specs.Reasons.{AllRight, AreRight, IsBadNode, IsBadNumber, IsDifference, in_rows, in_startup, in_total}
 use Rattle.plan_check.specs.Verdicts.{IsReason}
 use Rattle.plan_check.specs.declared.verdict.Number.{Number}
+use Rattle.plan_check.specs.declared.verdict.Reason.{Reason}
 use Rattle.plan_check.specs.declared.verdict.Reason.TheVariants as reasons
 use Rattle.plan_check.specs.declared.verdict.Number.TheVariants.{Startup, Total, Rows}
 use Rattle.entry_check.specs.Owning.{AreNumbersOf, HasNone, HasOwn, HasPlanAt, HasRight, IsOwn, plans_before}
+use Rattle.entry_check.specs.Telling.{IsFaultOf, IsFirstFault, IsOfEntries}
 use Rattle.entry_check.specs.declared.numbers.Own.{Own}
 use Rattle.entry_check.proofs.PlaceLemmas.{unfolds}
 
@@ -98,11 +100,22 @@ module _ (c : Contents) (q : Query) where
             some-entry : (x y : Entry) → Some x ≡ Some y → x ≡ y
             some-entry x y e = cc
 
-    pub reason-node : HasNone c q made e → IsReason c q t (reasons.BadNode (n + 1))
-    reason-node none = let next : suc n ≡ n + 1 = omega arith in subst (λ k. IsReason c q t (reasons.BadNode k)) next (bad-node none)
+    pub fault-node : HasNone c q made e → IsFaultOf c q t n (reasons.BadNode (n + 1))
+    fault-node none = (omega arith, bad-node none)
 
-    pub reason-number : (x : Own) (h : HasOwn c q made e x) (what : Number) (printed own : ℕ) → IsDifference q.window e (cost c q h.plan) (estimate c q h.plan) what printed own → IsReason c q t (reasons.BadNumber (n + 1) what printed own)
-    reason-number x h what printed own differs = let next : suc n ≡ n + 1 = omega arith in subst (λ k. IsReason c q t (reasons.BadNumber k what printed own)) next (bad-number x h what printed own differs)
+    pub fault-number : (x : Own) (h : HasOwn c q made e x) (what : Number) (printed own : ℕ) → IsDifference q.window e (cost c q h.plan) (estimate c q h.plan) what printed own → IsFaultOf c q t n (reasons.BadNumber (n + 1) what printed own)
+    fault-number x h what printed own differs = (omega arith, bad-number x h what printed own differs)
+
+  -- a fault of an entry is a reason
+  fault-reason : (t : Certificate) (n : ℕ) (r : Reason) → IsFaultOf c q t n r → IsReason c q t r × IsOfEntries r
+  fault-reason t n (reasons.BadNode number) (is, bad) = (subst (λ k. IsReason c q t (reasons.BadNode k)) (sym is) bad, tt)
+  fault-reason t n (reasons.BadNumber number what printed own) (is, bad) = (subst (λ k. IsReason c q t (reasons.BadNumber k what printed own)) (sym is) bad, tt)
+  fault-reason t n (reasons.Dominated number by) h = absurd h
+  fault-reason t n (reasons.Uncovered node startup total rows) h = absurd h
+  fault-reason t n (reasons.NotBest printed own) h = absurd h
+
+  pub first-reason : (t : Certificate) (r : Reason) → IsFirstFault c q t r → IsReason c q t r × IsOfEntries r
+  first-reason t r h = fault-reason t h.place r h.fault
 
   pub none-right : (t : Certificate) → AreRight c q t 0
   none-right t k e lt at = absurd (omega (arith, lt))

@@ -1,5 +1,5 @@
 -- What tests of entries and judgements tell. Own.
-use Rattle.std.specs.Prelude.{ℕ, ◌≡◌, ◌↔◌, Bool, IsTrue, List, MatchOption, Option, Some, false, true}
+use Rattle.std.specs.Prelude.{ℕ, ◌≡◌, ◌↔◌, Bool, IsTrue, List, MatchOption, Option, Some, false, suc, true}
 use Rattle.pg_base.specs.Sets.{has}
 use Rattle.catalog.specs.Contents.{Contents}
 use Rattle.cost_rules.specs.Costs.{capped_pair}
@@ -14,9 +14,9 @@ use Rattle.plan_tree.specs.Paths.{kept_cost}
 use Rattle.plan_tree.specs.Plans.{Plan, param_of, set_of}
 use Rattle.plan_tree.specs.Space.{IsEmpty, IsFinished, IsMergeList, IsSameSet, MeetsOrder}
 use Rattle.plan_check.specs.Beating.{IsRight}
-use Rattle.plan_check.specs.Certificates.{finish_at, sorted_if}
+use Rattle.plan_check.specs.Certificates.{Certificate, finish_at, sorted_if}
 use Rattle.plan_check.specs.Joining.{MayMerge}
-use Rattle.plan_check.specs.Reasons.{AllRight, AreUndominated, IsDifference}
+use Rattle.plan_check.specs.Reasons.{AllRight, AreUndominated, IsBadNode, IsBadNumber, IsDifference}
 use Rattle.plan_check.specs.Tables.{HasPlanNumbers}
 use Rattle.plan_check.specs.Verdicts.{AreWhole, IsReason}
 use Rattle.plan_check.specs.Views.{certificate, entry, side}
@@ -26,6 +26,7 @@ use Rattle.plan_check.specs.declared.entry.Side.{Side as Sided}
 use Rattle.plan_check.specs.declared.judged.Judged.{Judged}
 use Rattle.plan_check.specs.declared.verdict.Number.{Number}
 use Rattle.plan_check.specs.declared.verdict.Reason.{Reason}
+use Rattle.plan_check.specs.declared.verdict.Reason.TheVariants as reasons
 use Rattle.entry_check.specs.Owning.{AreNumbersOf, IsFinishedSide}
 use Rattle.entry_check.specs.declared.numbers.Own.{Own}
 
@@ -55,9 +56,35 @@ HasSoundEntries j = AreWhole j.cat.now j.q.now (certificate j.t.now) × AreUndom
 abbrev pub IsReasonAgainst : Judged → Reason → Type 0
 IsReasonAgainst j r = IsReason j.cat.now j.q.now (certificate j.t.now) r
 
--- the answer is none where all entries are right, else the first reason against them
+-- a kind of reason that is told by the entries and the best plan alone, without any plan besides them
+abbrev pub IsOfEntries : Reason → Type 0
+IsOfEntries (reasons.BadNode number) = Unit {0}
+IsOfEntries (reasons.BadNumber number what printed own) = Unit {0}
+IsOfEntries (reasons.Dominated number by) = Unit {0}
+IsOfEntries (reasons.Uncovered node startup total rows) = ⊥
+IsOfEntries (reasons.NotBest printed own) = ⊥
+
+-- the first reason against the certificate that is judged, of those kinds
+abbrev pub IsReasonOfEntries : Judged → Reason → Type 0
+IsReasonOfEntries j r = IsReasonAgainst j r × IsOfEntries r
+
+-- a fault of the entry at a place, from 0, under its number, where those before it have none: it is none of the plan space or
+-- not as it says, or else the number named is its first that is not its plan's
+abbrev pub IsFaultOf : Contents → Query → Certificate → ℕ → Reason → Type 0
+IsFaultOf c q t n (reasons.BadNode number) = (number ≡ suc n) × IsBadNode c q t n
+IsFaultOf c q t n (reasons.BadNumber number what printed own) = (number ≡ suc n) × IsBadNumber c q t n what printed own
+IsFaultOf c q t n (reasons.Dominated number by) = ⊥
+IsFaultOf c q t n (reasons.Uncovered node startup total rows) = ⊥
+IsFaultOf c q t n (reasons.NotBest printed own) = ⊥
+
+-- a fault of the first entry that has one
+pub record IsFirstFault (c : Contents) (q : Query) (t : Certificate) (r : Reason) : Type 0 where
+  pub place : ℕ
+  pub fault : IsFaultOf c q t place r
+
+-- the answer is none where all entries are right, else the fault of the first one that is not
 abbrev pub JudgesEntries : Contents → Query → Certified → Option Reason → Type 0
-JudgesEntries c q t found = MatchOption found (AllRight c q (certificate t)) (λ r. IsReason c q (certificate t) r)
+JudgesEntries c q t found = MatchOption found (AllRight c q (certificate t)) (λ r. IsFirstFault c q (certificate t) r)
 
 -- the first number of an entry that is not its own, with what the entry says and what it is
 abbrev pub DiffersBy : Query → Entered → Own → Number → ℕ → ℕ → Type 0

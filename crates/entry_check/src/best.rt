@@ -7,7 +7,7 @@ ghost use Rattle.sql_query.specs.Queries.{width};
 ghost use Rattle.plan_check.specs.Views.{certificate};
 ghost use Rattle.plan_check.specs.Placing.{ArePlaced};
 ghost use Rattle.plan_check.specs.Reasons.{AllRight, HasBest};
-ghost use Rattle.entry_check.specs.Telling.{HasSoundEntries, IsEntryOfSide, IsReasonAgainst, IsUnfinishedSide, TellsOrdered, TellsWhole};
+ghost use Rattle.entry_check.specs.Telling.{HasSoundEntries, IsEntryOfSide, IsReasonOfEntries, IsUnfinishedSide, TellsOrdered, TellsWhole};
 
 use crate::entries::entry_before;
 use crate::judging::judge_entries;
@@ -84,7 +84,7 @@ pub fn finished_side<'a>(
 pub fn judge_table(j: &Judged) -> Option<Reason>
     requires query { IsOverTables j.now.cat.now j.now.q.now }
     requires placed { ArePlaced (certificate j.now.t.now).entries j.now.places.now }
-    ensures { MatchOption result (HasSoundEntries j.now) (λ r. IsReasonAgainst j.now r) }
+    ensures { MatchOption result (HasSoundEntries j.now) (λ r. IsReasonOfEntries j.now r) }
 {
     match judge_entries(j.cat, j.q, j.t) {
         Some(reason) => Some(reason),

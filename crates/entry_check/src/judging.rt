@@ -6,8 +6,7 @@ ghost use Rattle.sql_query.specs.declared.window.Window.{Window as Asked};
 ghost use Rattle.plan_check.specs.Tables.{IsStartup};
 ghost use Rattle.plan_check.specs.Views.{certificate};
 ghost use Rattle.plan_check.specs.Reasons.{AreRight};
-ghost use Rattle.plan_check.specs.Verdicts.{IsReason};
-ghost use Rattle.entry_check.specs.Telling.{DiffersBy, JudgesEntries, SaysNumbers};
+ghost use Rattle.entry_check.specs.Telling.{DiffersBy, IsFaultOf, JudgesEntries, SaysNumbers};
 
 use crate::entries::own_at;
 use crate::numbers::Own;
@@ -44,14 +43,14 @@ fn difference(q: &Prepared, e: &Entry, own: Own) -> Option<(Number, u64, u64)>
     None
 }
 
-/// The reason for which the entry at place `n`, from 0, is not right, where those before it are: it is none of the plan
-/// space or not as it says, else the first number that is not its own, with what the entry has and what it is. None
-/// exactly where it is right. It takes no memory.
+/// The fault of the entry at place `n`, from 0, where those before it are right: it is none of the plan space or not as it
+/// says, else the first number that is not its own, with what the entry has and what it is. None exactly where it is right.
+/// It takes no memory.
 pub fn judge_entry(cat: &Catalog, q: &Prepared, t: &Certificate, n: usize) -> Option<Reason>
     requires query { IsOverTables cat.now q.now }
     requires within { n < length (certificate t.now).entries }
     requires before { AreRight cat.now q.now (certificate t.now) n }
-    ensures reason { IfSome result (λ r. IsReason cat.now q.now (certificate t.now) r) }
+    ensures fault { IfSome result (λ r. IsFaultOf cat.now q.now (certificate t.now) n r) }
     ensures right { IfNone result (AreRight cat.now q.now (certificate t.now) (n + 1)) }
 {
     let e = &t.entries.items()[n];
@@ -70,8 +69,8 @@ pub fn judge_entry(cat: &Catalog, q: &Prepared, t: &Certificate, n: usize) -> Op
     }
 }
 
-/// The first reason for which some entry is not right, by rising number. None exactly where each entry is right. It takes
-/// no memory.
+/// The fault of the first entry that is not right, by rising number. None exactly where each entry is right. It takes no
+/// memory.
 pub fn judge_entries(cat: &Catalog, q: &Prepared, t: &Certificate) -> Option<Reason>
     requires query { IsOverTables cat.now q.now }
     ensures { JudgesEntries cat.now q.now t.now result }

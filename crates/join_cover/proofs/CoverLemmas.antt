@@ -12,6 +12,8 @@ use Rattle.sql_query.specs.declared.window.Window.{Window}
 use Rattle.plan_tree.specs.Costs.{cost}
 use Rattle.plan_tree.specs.Least.{IsAdmissible}
 use Rattle.plan_tree.specs.Paths.{startup_kept}
+use Rattle.eq_classes.specs.declared.classes.ClassNo.{ClassNo}
+use Rattle.pathkeys.specs.Finding.{class_numbers}
 use Rattle.pathkeys.specs.Keys.{Keys}
 use Rattle.plan_tree.specs.Plans.{Plan, seq, index, index_only, bitmap, sort, nest, merge, is_sort}
 use Rattle.plan_laws.specs.Closed.{IsKeptSide}
@@ -34,7 +36,8 @@ use Rattle.entry_check.specs.Owning.{HasRight}
 use Rattle.entry_check.proofs.NestLemmas.{apart-not}
 use Rattle.entry_check.proofs.PartLemmas.{relation-below}
 use Rattle.plan_tree.proofs.SetLemmas.{within-most}
-use Rattle.join_cover.specs.Serving.{AreJoinsOf, AreJoinsServed, AreMergesOf, AreMergesServed, AreNestsOf, AreNestsServed, IsListServed, IsMergeOpen, IsMergeServed, IsNestServed, IsOpen, IsServed}
+use Rattle.join_cover.specs.Serving.{AreJoinsOf, AreJoinsServed, AreMergesOf, AreMergesServed, AreNestsOf, AreNestsServed, IsJoinOfSets, IsListServed, IsMergeBy, IsMergeOfSets, IsMergeOpen, IsMergeServed, IsNestServed, IsOpen, IsServed}
+use Rattle.join_cover.specs.Covering.{IsMergeNode}
 use Rattle.join_cover.specs.declared.uncovered.Uncovered.{Uncovered}
 
 module _ (c : Contents) (q : Query) (t : Certificate) (right : AllRight c q t) where
@@ -202,9 +205,17 @@ module _ (c : Contents) (q : Query) (t : Certificate) (right : AllRight c q t) w
         absurd (apart-not x y (subst₂ (λ (m n : ℕ). AreApart (has m) (has n)) a.same b.same may.apart) meets);
   }
 
-  pub pair-served : (x y : ℕ) → AreNestsOf c q t x y → (r : Option (Plain × Uncovered)) → MatchOption r (AreMergesOf c q t x y) (λ u. IsOpen c q t u.0 u.1) → MatchOption r (AreJoinsOf c q t x y) (λ u. IsOpen c q t u.0 u.1)
+  -- a merge is a join
+  merge-joins : (keys : Keys) (x y : ℕ) (node : Plain) → IsMergeBy t keys x y node → IsJoinOfSets t x y node
+  merge-joins keys x y (plain.Merge list outer inner) h = h.1
+  merge-joins keys x y (plain.Seq r) h = absurd h
+  merge-joins keys x y (plain.Index r i backward only param) h = absurd h
+  merge-joins keys x y (plain.Bitmap r param elements arms) h = absurd h
+  merge-joins keys x y (plain.Nest outer inner) h = absurd h
+
+  pub pair-served : (x y : ℕ) → AreNestsOf c q t x y → (r : Option (Plain × Uncovered)) → MatchOption r (AreMergesOf c q t x y) (λ u. IsMergeOfSets t x y u.0 × IsOpen c q t u.0 u.1) → MatchOption r (AreJoinsOf c q t x y) (λ u. IsJoinOfSets t x y u.0 × IsOpen c q t u.0 u.1)
   pair-served x y nests None merges = record { nests = nests; merges = merges }
-  pair-served x y nests (Some u) h = h
+  pair-served x y nests (Some u) h = (merge-joins h.0.0 x y u.0 h.0.1, h.1)
 
   -- the entry that was read is of no other set than its own
   pub other-than : (x k : ℕ) (a : Entry) → slice_get t.entries k ≡ Some a → a.set.0 ≢ x → ¬ IsOf t.entries x k
@@ -218,6 +229,14 @@ module _ (c : Contents) (q : Query) (t : Certificate) (right : AllRight c q t) w
   none-led k a keys sa at none l o i eo ei built =
       let y = numbered q t (suc l) i ei in
       absurd (none y.entry false (built-merge c q keys a y.entry sa false o i (right-at k a o at eo) (right-at y.place y.entry i y.stands (ap (unfold_at q t) (sym y.number) ∙ ei)) built))
+
+-- the data for a merge of two entries names them
+pub merge-named : (t : Certificate) (list : List ClassNo) (at : ℕ × ℕ) (x y : ℕ) (node : Plain) → IsMergeNode list at node → IsOf t.entries x at.0 → IsOf t.entries y at.1 → IsMergeBy t (class_numbers list) x y node
+merge-named t list at x y (plain.Merge keys outer inner) h a b = (h.0, (record { place = at.0; is = h.1; of = a }, record { place = at.1; is = h.2; of = b }))
+merge-named t list at x y (plain.Seq r) h a b = absurd h
+merge-named t list at x y (plain.Index r i backward only param) h a b = absurd h
+merge-named t list at x y (plain.Bitmap r param elements arms) h a b = absurd h
+merge-named t list at x y (plain.Nest outer inner) h a b = absurd h
 
 -- what is said of the entries as they were read
 pub beaten-read : (w : Option Window) (t : Certificate) (xs items : List Entered) (e : Entry) → t.entries ≡ map entry xs → items ≡ xs → IsBeaten w (map entry items) e → IsBeaten w t.entries e

@@ -19,7 +19,7 @@ use Rattle.plan_check.specs.Certificates.{Certificate}
 use Rattle.plan_check.specs.Reasons.{AllRight}
 use Rattle.plan_check.specs.declared.verdict.Plain.{Plain}
 use Rattle.plan_check.proofs.MergeLemmas.{built-merge}
-use Rattle.join_cover.specs.Serving.{AreListsOf, AreMergesBy, AreMergesOf, AreThirdsServed, IsFirstServed, IsOpen, IsSecondServed}
+use Rattle.join_cover.specs.Serving.{AreListsOf, AreMergesBy, AreMergesOf, AreThirdsServed, IsFirstServed, IsSecondServed}
 use Rattle.join_cover.specs.declared.uncovered.Uncovered.{Uncovered}
 use Rattle.join_cover.proofs.CoverLemmas.{right-at}
 use Rattle.join_cover.proofs.WalkLemmas.{IsFound, any-found, found-any}
@@ -80,19 +80,19 @@ module _ (c : Contents) (q : Query) (a b : Set) where
       omega (arith, few, long)
 
 module _ (c : Contents) (q : Query) (t : Certificate) (k l : ℕ) where
-  module _ (found : List (Option ClassNo)) (r : Option (Plain × Uncovered)) where
+  module _ (found : List (Option ClassNo)) (r : Option (Plain × Uncovered)) (S : Plain × Uncovered → Type 0) where
     -- the lists that begin with two classes, and those that begin with one
-    pub second-served : (x y : ClassNo) → AreMergesBy c q t (x.0 ∷ y.0 ∷ []) k l → MatchOption r (AreThirdsServed c q t found x y k l) (λ u. IsOpen c q t u.0 u.1) → MatchOption r (IsSecondServed c q t found x y k l) (λ u. IsOpen c q t u.0 u.1)
+    pub second-served : (x y : ClassNo) → AreMergesBy c q t (x.0 ∷ y.0 ∷ []) k l → MatchOption r (AreThirdsServed c q t found x y k l) S → MatchOption r (IsSecondServed c q t found x y k l) S
     second-served x y list h = by r h
       where
-        by : (s : Option (Plain × Uncovered)) → MatchOption s (AreThirdsServed c q t found x y k l) (λ u. IsOpen c q t u.0 u.1) → MatchOption s (IsSecondServed c q t found x y k l) (λ u. IsOpen c q t u.0 u.1)
+        by : (s : Option (Plain × Uncovered)) → MatchOption s (AreThirdsServed c q t found x y k l) S → MatchOption s (IsSecondServed c q t found x y k l) S
         by None thirds = λ ne. (list, thirds)
         by (Some u) open' = open'
 
-    pub first-served : (x : ClassNo) → AreMergesBy c q t (x.0 ∷ []) k l → MatchOption r ((n : ℕ) (y : ClassNo) → slice_get found n ≡ Some (Some y) → IsSecondServed c q t found x y k l) (λ u. IsOpen c q t u.0 u.1) → MatchOption r (IsFirstServed c q t found x k l) (λ u. IsOpen c q t u.0 u.1)
+    pub first-served : (x : ClassNo) → AreMergesBy c q t (x.0 ∷ []) k l → MatchOption r ((n : ℕ) (y : ClassNo) → slice_get found n ≡ Some (Some y) → IsSecondServed c q t found x y k l) S → MatchOption r (IsFirstServed c q t found x k l) S
     first-served x list h = by r h
       where
-        by : (s : Option (Plain × Uncovered)) → MatchOption s ((n : ℕ) (y : ClassNo) → slice_get found n ≡ Some (Some y) → IsSecondServed c q t found x y k l) (λ u. IsOpen c q t u.0 u.1) → MatchOption s (IsFirstServed c q t found x k l) (λ u. IsOpen c q t u.0 u.1)
+        by : (s : Option (Plain × Uncovered)) → MatchOption s ((n : ℕ) (y : ClassNo) → slice_get found n ≡ Some (Some y) → IsSecondServed c q t found x y k l) S → MatchOption s (IsFirstServed c q t found x k l) S
         by None seconds = (list, seconds)
         by (Some u) open' = open'
 
@@ -153,6 +153,6 @@ module _ (c : Contents) (q : Query) (t : Certificate) (k l : ℕ) where
           by-list keys (subst₂ (λ (x y : ℕ). IsMergeList c q (has x) (has y) keys) is.same is'.same may.list) m n is is' sa sb o i eo ei built
 
     -- what a walk over the classes found says of the lists holds of all merges of the two
-    pub walked : AllRight c q t → (r : Option (Plain × Uncovered)) → MatchOption r ((n : ℕ) (x : ClassNo) → slice_get found n ≡ Some (Some x) → IsFirstServed c q t found x k l) (λ x. IsOpen c q t x.0 x.1) → MatchOption r (AreMergesOf c q t k l) (λ x. IsOpen c q t x.0 x.1)
-    walked right None h = merges-of h right
-    walked right (Some x) h = h
+    pub walked : AllRight c q t → (r : Option (Plain × Uncovered)) (S : Plain × Uncovered → Type 0) → MatchOption r ((n : ℕ) (x : ClassNo) → slice_get found n ≡ Some (Some x) → IsFirstServed c q t found x k l) S → MatchOption r (AreMergesOf c q t k l) S
+    walked right None S h = merges-of h right
+    walked right (Some x) S h = h

@@ -19,7 +19,7 @@ use Rattle.plan_check.specs.declared.verdict.Plain.{Plain}
 use Rattle.plan_check.specs.declared.verdict.Plain.TheVariants as plain
 use Rattle.plan_check.proofs.PlacedLemmas.{each-of}
 use Rattle.join_cover.specs.Leasts.{IsLeastFrom}
-use Rattle.join_cover.specs.Serving.{AreMergesBy, AreNestsBy, AreNestsOf, IsNestServed, IsOpen}
+use Rattle.join_cover.specs.Serving.{AreMergesBy, AreNestsBy, AreNestsOf, IsNestServed, IsMergeBy, IsMergeOfSets, IsNumberOf, IsOpen, AreSides}
 use Rattle.join_cover.specs.declared.uncovered.Uncovered.{Uncovered}
 use Rattle.pg_base.proofs.NumberLemmas.{each-below as below-next}
 
@@ -56,8 +56,12 @@ module _ (c : Contents) (q : Query) (t : Certificate) (p : SetPlaces) (placed : 
       (λ m le lt of. each-of t.entries p y b.0 b.1 (λ n. IsOf t.entries y n → IsNestServed c q t (place_at p m) n) placed f' g' (λ n le' lt' of'. h m n le lt le' lt' of of') l is' is') k is is
 
   pub nests-of : (w : NestWork) (x y : RelSet) → w.outer ≡ x → w.inner ≡ y → (a b : ℕ × ℕ) → a.0 ≡ first_of p x.0 → a.1 ≡ min (past_of p x.0) (length (order_of p)) → b.0 ≡ first_of p y.0 → b.1 ≡ min (past_of p y.0) (length (order_of p)) →
-      (r : Option (ℕ × ℕ × Uncovered)) → MatchOption r (AreNestsBy c q t p w.outer.0 w.inner.0 a b) (λ u. IsOpen c q t (plain.Nest u.0 u.1) u.2) → MatchOption r (AreNestsOf c q t x.0 y.0) (λ u. IsOpen c q t (plain.Nest u.0 u.1) u.2)
-  nests-of w x y outer inner a b f g f' g' (Some u) h = h
+      (r : Option (ℕ × ℕ × Uncovered)) → MatchOption r (AreNestsBy c q t p w.outer.0 w.inner.0 a b) (λ u. AreSides t w.outer.0 w.inner.0 u.0 u.1 × IsOpen c q t (plain.Nest u.0 u.1) u.2) →
+      MatchOption r (AreNestsOf c q t x.0 y.0) (λ u. AreSides t x.0 y.0 u.0 u.1 × IsOpen c q t (plain.Nest u.0 u.1) u.2)
+  nests-of w x y outer inner a b f g f' g' (Some u) h = (
+    (subst (λ (s : RelSet). IsNumberOf t s.0 u.0) outer h.0.0, subst (λ (s : RelSet). IsNumberOf t s.0 u.1) inner h.0.1),
+    h.1,
+  )
   nests-of w x y outer inner a b f g f' g' None h =
       nests-at x.0 y.0 a b f g f' g'
       (subst (λ (s : RelSet). AreNestsBy c q t p s.0 y.0 a b) outer (subst (λ (s : RelSet). AreNestsBy c q t p w.outer.0 s.0 a b) inner h))
@@ -69,9 +73,17 @@ module _ (c : Contents) (q : Query) (w : MergeWork) (list : List ClassNo) (x y :
       (subst (λ (s : RelSet). IsMergeList c q (has s.0) (has w.inner.0) (class_numbers list)) (sym outer)
       (subst (λ (s : RelSet). IsMergeList c q (has x.0) (has s.0) (class_numbers list)) (sym inner) h))
 
-  pub merges-by : (t : Certificate) (r : Option (Plain × Uncovered)) → MatchOption r (AreMergesBy c q t (class_numbers w.list.now) w.outer.0 w.inner.0) (λ u. IsOpen c q t u.0 u.1) →
-      MatchOption r (AreMergesBy c q t (class_numbers list) x.0 y.0) (λ u. IsOpen c q t u.0 u.1)
-  merges-by t (Some u) h = h
+  pub merges-by : (t : Certificate) (r : Option (Plain × Uncovered)) →
+      MatchOption r (AreMergesBy c q t (class_numbers w.list.now) w.outer.0 w.inner.0) (λ u. IsMergeBy t (class_numbers w.list.now) w.outer.0 w.inner.0 u.0 × IsOpen c q t u.0 u.1) →
+      MatchOption r (AreMergesBy c q t (class_numbers list) x.0 y.0) (λ u. IsMergeOfSets t x.0 y.0 u.0 × IsOpen c q t u.0 u.1)
+  merges-by t (Some u) h = (
+    (
+      class_numbers w.list.now,
+      subst (λ (s : RelSet). IsMergeBy t (class_numbers w.list.now) s.0 y.0 u.0) outer
+          (subst (λ (s : RelSet). IsMergeBy t (class_numbers w.list.now) w.outer.0 s.0 u.0) inner h.0),
+    ),
+    h.1,
+  )
   merges-by t None h =
       subst (λ (xs : List ClassNo). AreMergesBy c q t (class_numbers xs) x.0 y.0) is
       (subst (λ (s : RelSet). AreMergesBy c q t (class_numbers w.list.now) s.0 y.0) outer

@@ -11,19 +11,35 @@ use Rattle.plan_tree.specs.Plans.{Plan, merge}
 use Rattle.plan_tree.specs.Space.{IsMergeList}
 use Rattle.plan_check.specs.Certificates.{Certificate, sorted_if, unfold_at}
 use Rattle.plan_check.specs.Placing.{IsOf, place_at}
-use Rattle.plan_check.specs.Plains.{StandsForPlan}
+use Rattle.plan_check.specs.Plains.{StandsForPlan, keys_in}
 use Rattle.plan_check.specs.Views.{certificate}
 use Rattle.plan_check.specs.declared.judged.Judged.{Judged}
 use Rattle.plan_check.specs.declared.verdict.Plain.{Plain}
 use Rattle.entry_check.specs.declared.merges.MergeWork.{MergeWork}
 use Rattle.entry_check.specs.declared.nests.NestWork.{NestWork}
-use Rattle.join_cover.specs.Serving.{AreJoinsOf, AreJoinsServed, AreMergesBy, AreMergesOf, AreNestsBy, AreNestsOf, AreThirdsServed, IsFirstServed, IsMergeOpen, IsMergeServed, IsNestServed, IsOpen, IsRowServed, IsSecondServed, IsThirdServed}
+use Rattle.join_cover.specs.Serving.{AreJoinsOf, AreJoinsServed, AreMergesBy, AreMergesOf, AreNestsBy, AreNestsOf, AreSides, AreThirdsServed, IsFirstServed, IsJoinOfSets, IsMergeBy, IsMergeOfSets, IsMergeOpen, IsMergeServed, IsNestServed, IsOpen, IsRowServed, IsSecondServed, IsThirdServed}
 use Rattle.join_cover.specs.declared.uncovered.Uncovered.{Uncovered}
 use Rattle.plan_check.specs.declared.verdict.Plain.TheVariants as plain
 
 -- the certificate misses a candidate: no entry dominates it, and these are its numbers
 abbrev pub Misses : Judged → Plain × Uncovered → Type 0
 Misses j r = IsOpen j.cat.now j.q.now (certificate j.t.now) r.0 r.1
+
+-- the certificate misses a merge by the list of the work, of entries of its two sets
+abbrev pub MissesWork : Judged → MergeWork → Plain × Uncovered → Type 0
+MissesWork j work r = IsMergeBy (certificate j.t.now) (class_numbers work.list.now) work.outer.0 work.inner.0 r.0 × Misses j r
+
+-- the certificate misses a merge of entries of two sets
+abbrev pub MissesMerges : Judged → RelSet → RelSet → Plain × Uncovered → Type 0
+MissesMerges j outer inner r = IsMergeOfSets (certificate j.t.now) outer.0 inner.0 r.0 × Misses j r
+
+-- the certificate misses a join of entries of two sets
+abbrev pub MissesJoinOf : Judged → RelSet → RelSet → Plain × Uncovered → Type 0
+MissesJoinOf j outer inner r = IsJoinOfSets (certificate j.t.now) outer.0 inner.0 r.0 × Misses j r
+
+-- the certificate misses a join of entries of any two sets
+abbrev pub MissesJoin : Judged → Plain × Uncovered → Type 0
+MissesJoin j r = (outer : RelSet) × (inner : RelSet) × MissesJoinOf j outer inner r
 
 -- the certificate covers all merges of the entries of two sets
 abbrev pub CoversMerges : Judged → RelSet → RelSet → Type 0
@@ -83,6 +99,15 @@ IsNodeOfMerge list at sorts node = (c : Contents) (q : Query) (t : Certificate) 
     StandsForPlan c q t node
     (merge (class_numbers list) (sorted_if sorts.0 (class_numbers list) o) (sorted_if sorts.1 (class_numbers list) i))
 
+-- data names the entries at two places, from 0, for a merge by a list
+abbrev pub IsMergeNode : List ClassNo → ℕ × ℕ → Plain → Type 0
+IsMergeNode list at (plain.Merge keys outer inner) =
+    (keys_in keys ≡ class_numbers list) × (outer.entry ≡ suc at.0) × (inner.entry ≡ suc at.1)
+IsMergeNode list at (plain.Seq r) = ⊥
+IsMergeNode list at (plain.Index r i backward only param) = ⊥
+IsMergeNode list at (plain.Bitmap r param elements arms) = ⊥
+IsMergeNode list at (plain.Nest outer inner) = ⊥
+
 -- the list that merges of two sets have in common is one of a merge of them
 abbrev pub HasMergeList : Judged → MergeWork → Type 0
 HasMergeList j work = IsMergeList j.cat.now j.q.now (has work.outer.0) (has work.inner.0) (class_numbers work.list.now)
@@ -93,9 +118,10 @@ CoversMerge j work at sorts =
     IsOf (certificate j.t.now).entries work.outer.0 at.0 → IsOf (certificate j.t.now).entries work.inner.0 at.1 →
     IsMergeServed j.cat.now j.q.now (certificate j.t.now) (class_numbers work.list.now) sorts.0 sorts.1 at.0 at.1
 
--- the certificate misses the merge of the entries at two places, each as it stands or sorted
+-- the certificate misses the merge of the entries at two places, each as it stands or sorted, and they are of the two sets
 abbrev pub MissesMerge : Judged → MergeWork → ℕ × ℕ → Bool × Bool → Uncovered → Type 0
 MissesMerge j work at sorts x =
+    IsOf (certificate j.t.now).entries work.outer.0 at.0 × IsOf (certificate j.t.now).entries work.inner.0 at.1 ×
     IsMergeOpen j.cat.now j.q.now (certificate j.t.now) (class_numbers work.list.now) sorts.0 sorts.1 at.0 at.1 x
 
 -- the certificate covers the merges of the outer entry at a place, sorted or not, with all inner ones as they stand
@@ -131,9 +157,11 @@ abbrev pub CoversNest : Judged → NestWork → ℕ → ℕ → Type 0
 CoversNest j work k l = IsOf (certificate j.t.now).entries work.outer.0 k → IsOf (certificate j.t.now).entries work.inner.0 l →
     IsNestServed j.cat.now j.q.now (certificate j.t.now) k l
 
--- the certificate misses the nested loop of the entries at two places
-abbrev pub MissesNestAt : Judged → ℕ → ℕ → Uncovered → Type 0
-MissesNestAt j k l x = IsOpen j.cat.now j.q.now (certificate j.t.now) (plain.Nest (suc k) (suc l)) x
+-- the certificate misses the nested loop of the entries at two places, and they are of the two sets
+abbrev pub MissesNestAt : Judged → NestWork → ℕ → ℕ → Uncovered → Type 0
+MissesNestAt j work k l x =
+    IsOf (certificate j.t.now).entries work.outer.0 k × IsOf (certificate j.t.now).entries work.inner.0 l ×
+    IsOpen j.cat.now j.q.now (certificate j.t.now) (plain.Nest (suc k) (suc l)) x
 
 -- the certificate covers the nested loops of the outer entry at a place with inner ones at the ranks from one on and before
 -- another
@@ -143,10 +171,8 @@ CoversNestsIn j work k within = (l : ℕ) → within.0 ≤ l → l < within.1 �
     IsNestServed j.cat.now j.q.now (certificate j.t.now) k (place_at j.places.now l)
 
 -- the certificate misses the nested loop of the outer entry at a place with the inner one found
-abbrev pub MissesNestWith : Judged → ℕ → ℕ × Uncovered → Type 0
-MissesNestWith j k r =
-    (r.0 < length (certificate j.t.now).entries)
-    × IsOpen j.cat.now j.q.now (certificate j.t.now) (plain.Nest (suc k) (suc r.0)) r.1
+abbrev pub MissesNestWith : Judged → NestWork → ℕ → ℕ × Uncovered → Type 0
+MissesNestWith j work k r = (r.0 < length (certificate j.t.now).entries) × MissesNestAt j work k r.0 r.1
 
 -- the certificate covers the nested loops of the entries of two sets at two stretches of ranks
 abbrev pub CoversNestsBy : Judged → NestWork → ℕ × ℕ → ℕ × ℕ → Type 0
@@ -156,6 +182,6 @@ CoversNestsBy j work outer inner = AreNestsBy j.cat.now j.q.now (certificate j.t
 abbrev pub CoversNestsOf : Judged → RelSet → RelSet → Type 0
 CoversNestsOf j outer inner = AreNestsOf j.cat.now j.q.now (certificate j.t.now) outer.0 inner.0
 
--- the certificate misses the nested loop of the entries of two numbers
-abbrev pub MissesNest : Judged → ℕ × ℕ × Uncovered → Type 0
-MissesNest j r = IsOpen j.cat.now j.q.now (certificate j.t.now) (plain.Nest r.0 r.1) r.2
+-- the certificate misses the nested loop of the entries of two numbers, and they are of two sets
+abbrev pub MissesNest : Judged → RelSet → RelSet → ℕ × ℕ × Uncovered → Type 0
+MissesNest j outer inner r = AreSides (certificate j.t.now) outer.0 inner.0 r.0 r.1 × IsOpen j.cat.now j.q.now (certificate j.t.now) (plain.Nest r.0 r.1) r.2

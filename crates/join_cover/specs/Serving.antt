@@ -12,10 +12,11 @@ use Rattle.plan_check.specs.Certificates.{Certificate, sorted_if, unfold_at}
 use Rattle.plan_check.specs.Tables.{IsDominated, IsEntryPlan}
 use Rattle.pathkeys.specs.Keys.{Keys}
 use Rattle.plan_check.specs.Placing.{IsOf, place_at}
-use Rattle.plan_check.specs.Plains.{StandsForPlan}
+use Rattle.plan_check.specs.Plains.{StandsForPlan, keys_in}
 use Rattle.plan_check.specs.Verdicts.{IsUncovered}
 use Rattle.plan_check.specs.declared.places.SetPlaces.{SetPlaces}
 use Rattle.plan_check.specs.declared.verdict.Plain.{Plain}
+use Rattle.plan_check.specs.declared.verdict.Plain.TheVariants as plain
 use Rattle.join_cover.specs.declared.uncovered.Uncovered.{Uncovered}
 
 module _ (c : Contents) (q : Query) (t : Certificate) where
@@ -100,6 +101,37 @@ module _ (c : Contents) (q : Query) (t : Certificate) where
     -- the merges of the entries of two sets by the lists that begin with one class
     abbrev pub IsFirstServed : ClassNo → ℕ → ℕ → Type 0
     IsFirstServed x a b = AreMergesBy (x.0 ∷ []) a b × ((n : ℕ) (y : ClassNo) → slice_get found n ≡ Some (Some y) → IsSecondServed x y a b)
+
+module _ (t : Certificate) where
+  -- an entry of a set has a number, from 1
+  pub record IsNumberOf (s n : ℕ) : Type 0 where
+    pub place : ℕ
+    pub is : n ≡ suc place
+    pub of : IsOf t.entries s place
+
+  -- the outer entry is of one set and the inner one of another, by their numbers
+  abbrev pub AreSides : ℕ → ℕ → ℕ → ℕ → Type 0
+  AreSides x y k l = IsNumberOf x k × IsNumberOf y l
+
+  -- a merge by a list of an entry of one set and one of another, each as it stands or sorted
+  abbrev pub IsMergeBy : Keys → ℕ → ℕ → Plain → Type 0
+  IsMergeBy keys x y (plain.Merge list outer inner) = (keys_in list ≡ keys) × AreSides x y outer.entry inner.entry
+  IsMergeBy keys x y (plain.Seq r) = ⊥
+  IsMergeBy keys x y (plain.Index r i backward only param) = ⊥
+  IsMergeBy keys x y (plain.Bitmap r param elements arms) = ⊥
+  IsMergeBy keys x y (plain.Nest outer inner) = ⊥
+
+  -- by any list
+  abbrev pub IsMergeOfSets : ℕ → ℕ → Plain → Type 0
+  IsMergeOfSets x y node = (keys : Keys) × IsMergeBy keys x y node
+
+  -- a nested loop or a merge of an entry of one set and one of another
+  abbrev pub IsJoinOfSets : ℕ → ℕ → Plain → Type 0
+  IsJoinOfSets x y (plain.Nest outer inner) = AreSides x y outer inner
+  IsJoinOfSets x y (plain.Merge list outer inner) = AreSides x y outer.entry inner.entry
+  IsJoinOfSets x y (plain.Seq r) = ⊥
+  IsJoinOfSets x y (plain.Index r i backward only param) = ⊥
+  IsJoinOfSets x y (plain.Bitmap r param elements arms) = ⊥
 
 -- each class that was found is by itself a list of a merge of two sets
 abbrev pub AreListsOf : Contents → Query → List (Option ClassNo) → ℕ → ℕ → Type 0

@@ -8,7 +8,7 @@ ghost use Rattle.plan_check.specs.Views.{certificate};
 ghost use Rattle.plan_check.specs.Placing.{ArePlaced};
 ghost use Rattle.plan_check.specs.Reasons.{AllRight};
 ghost use Rattle.sql_query.specs.Queries.{all_of_query};
-ghost use Rattle.join_cover.specs.Covering.{CoversAllJoins, CoversJoins, CoversJoinsUpTo, CoversMerges, Misses};
+ghost use Rattle.join_cover.specs.Covering.{CoversAllJoins, CoversJoins, CoversJoinsUpTo, CoversMerges, MissesJoin, MissesJoinOf, MissesMerges};
 
 use crate::lists::open_firsts;
 use crate::nests::open_nests;
@@ -25,7 +25,8 @@ pub fn open_merges(j: &Judged, outer: RelSet, inner: RelSet) -> Option<(Plain, U
     requires query { IsOverTables j.now.cat.now j.now.q.now }
     requires right { AllRight j.now.cat.now j.now.q.now (certificate j.now.t.now) }
     requires placed { ArePlaced (certificate j.now.t.now).entries j.now.places.now }
-    ensures { MatchOption result (CoversMerges j.now outer inner) (λ r. Misses j.now r) }
+    ensures { MatchOption result (CoversMerges j.now outer inner)
+        (λ r. MissesMerges j.now outer inner r) }
 {
     let found = classes_of(j.q).joining(outer, inner);
     open_firsts(j, (outer, inner), &found)
@@ -36,7 +37,8 @@ fn open_pair(j: &Judged, outer: RelSet, inner: RelSet) -> Option<(Plain, Uncover
     requires query { IsOverTables j.now.cat.now j.now.q.now }
     requires right { AllRight j.now.cat.now j.now.q.now (certificate j.now.t.now) }
     requires placed { ArePlaced (certificate j.now.t.now).entries j.now.places.now }
-    ensures { MatchOption result (CoversJoins j.now outer inner) (λ r. Misses j.now r) }
+    ensures { MatchOption result (CoversJoins j.now outer inner)
+        (λ r. MissesJoinOf j.now outer inner r) }
 {
     if outer.meets(inner) {
         return None;
@@ -52,7 +54,7 @@ fn open_side(j: &Judged, outer: RelSet, all: RelSet) -> Option<(Plain, Uncovered
     requires query { IsOverTables j.now.cat.now j.now.q.now }
     requires right { AllRight j.now.cat.now j.now.q.now (certificate j.now.t.now) }
     requires placed { ArePlaced (certificate j.now.t.now).entries j.now.places.now }
-    ensures { MatchOption result (CoversJoinsUpTo j.now outer all) (λ r. Misses j.now r) }
+    ensures { MatchOption result (CoversJoinsUpTo j.now outer all) (λ r. MissesJoin j.now r) }
 {
     for bits in 0..all.0 as u32 + 1 {
         if let Some(x) = open_pair(j, outer, RelSet(bits as u16)) {
@@ -69,7 +71,7 @@ pub fn open_join(j: &Judged) -> Option<(Plain, Uncovered)>
     requires query { IsOverTables j.now.cat.now j.now.q.now }
     requires right { AllRight j.now.cat.now j.now.q.now (certificate j.now.t.now) }
     requires placed { ArePlaced (certificate j.now.t.now).entries j.now.places.now }
-    ensures { MatchOption result (CoversAllJoins j.now) (λ r. Misses j.now r) }
+    ensures { MatchOption result (CoversAllJoins j.now) (λ r. MissesJoin j.now r) }
 {
     let all = all_relations(j.q);
     for bits in 0..all.0 as u32 + 1 {

@@ -7,7 +7,7 @@ ghost use Rattle.plan_check.specs.Views.{certificate};
 ghost use Rattle.plan_check.specs.Placing.{ArePlaced};
 ghost use Rattle.plan_check.specs.Reasons.{AllRight};
 ghost use Rattle.join_cover.specs.Serving.{AreListsOf};
-ghost use Rattle.join_cover.specs.Covering.{CoversFirst, CoversFirsts, CoversMergesBy, CoversSecond, CoversSeconds, CoversThirds, CoversThree, IsListOfSets, Misses};
+ghost use Rattle.join_cover.specs.Covering.{CoversFirst, CoversFirsts, CoversMergesBy, CoversSecond, CoversSeconds, CoversThirds, CoversThree, IsListOfSets, MissesMerges};
 
 use crate::merges::open_work;
 use crate::uncovered::Uncovered;
@@ -22,7 +22,7 @@ fn open_list(j: &Judged, sets: (RelSet, RelSet), list: &[ClassNo]) -> Option<(Pl
     requires right { AllRight j.now.cat.now j.now.q.now (certificate j.now.t.now) }
     requires placed { ArePlaced (certificate j.now.t.now).entries j.now.places.now }
     requires list { IsListOfSets j.now sets (class_numbers list.now) }
-    ensures { MatchOption result (CoversMergesBy j.now list.now sets) (λ r. Misses j.now r) }
+    ensures { MatchOption result (CoversMergesBy j.now list.now sets) (λ r. MissesMerges j.now sets.0 sets.1 r) }
 {
     let work = merge_work(j.cat, j.q, list, sets.0, sets.1);
     open_work(j, &work)
@@ -39,7 +39,7 @@ fn open_three(
     requires placed { ArePlaced (certificate j.now.t.now).entries j.now.places.now }
     requires two { IsListOfSets j.now sets (list.0.0 ∷ list.1.0 ∷ []) }
     requires third { IsListOfSets j.now sets (list.2.0 ∷ []) }
-    ensures { MatchOption result (CoversThree j.now list sets) (λ r. Misses j.now r) }
+    ensures { MatchOption result (CoversThree j.now list sets) (λ r. MissesMerges j.now sets.0 sets.1 r) }
 {
     if list.2.0 == list.0.0 {
         return None;
@@ -63,7 +63,7 @@ fn open_thirds(
     requires placed { ArePlaced (certificate j.now.t.now).entries j.now.places.now }
     requires found { AreListsOf j.now.cat.now j.now.q.now found.now sets.0.0 sets.1.0 }
     requires two { IsListOfSets j.now sets (two.0.0 ∷ two.1.0 ∷ []) }
-    ensures { MatchOption result (CoversThirds j.now found.now two sets) (λ r. Misses j.now r) }
+    ensures { MatchOption result (CoversThirds j.now found.now two sets) (λ r. MissesMerges j.now sets.0 sets.1 r) }
 {
     for n in 0..found.len() {
         if let Some(z) = found[n] {
@@ -89,7 +89,7 @@ fn open_two(
     requires found { AreListsOf j.now.cat.now j.now.q.now found.now sets.0.0 sets.1.0 }
     requires first { IsListOfSets j.now sets (two.0.0 ∷ []) }
     requires second { IsListOfSets j.now sets (two.1.0 ∷ []) }
-    ensures { MatchOption result (CoversSecond j.now found.now two sets) (λ r. Misses j.now r) }
+    ensures { MatchOption result (CoversSecond j.now found.now two sets) (λ r. MissesMerges j.now sets.0 sets.1 r) }
 {
     if two.1.0 == two.0.0 {
         return None;
@@ -113,7 +113,7 @@ fn open_seconds(
     requires placed { ArePlaced (certificate j.now.t.now).entries j.now.places.now }
     requires found { AreListsOf j.now.cat.now j.now.q.now found.now sets.0.0 sets.1.0 }
     requires first { IsListOfSets j.now sets (first.0 ∷ []) }
-    ensures { MatchOption result (CoversSeconds j.now found.now first sets) (λ r. Misses j.now r) }
+    ensures { MatchOption result (CoversSeconds j.now found.now first sets) (λ r. MissesMerges j.now sets.0 sets.1 r) }
 {
     for n in 0..found.len() {
         if let Some(y) = found[n] {
@@ -137,7 +137,7 @@ fn open_one(
     requires placed { ArePlaced (certificate j.now.t.now).entries j.now.places.now }
     requires found { AreListsOf j.now.cat.now j.now.q.now found.now sets.0.0 sets.1.0 }
     requires first { IsListOfSets j.now sets (first.0 ∷ []) }
-    ensures { MatchOption result (CoversFirst j.now found.now first sets) (λ r. Misses j.now r) }
+    ensures { MatchOption result (CoversFirst j.now found.now first sets) (λ r. MissesMerges j.now sets.0 sets.1 r) }
 {
     if let Some(x) = open_list(j, sets, &[first]) {
         return Some(x);
@@ -156,7 +156,7 @@ pub(crate) fn open_firsts(
     requires right { AllRight j.now.cat.now j.now.q.now (certificate j.now.t.now) }
     requires placed { ArePlaced (certificate j.now.t.now).entries j.now.places.now }
     requires found { AreListsOf j.now.cat.now j.now.q.now found.now sets.0.0 sets.1.0 }
-    ensures { MatchOption result (CoversFirsts j.now found.now sets) (λ r. Misses j.now r) }
+    ensures { MatchOption result (CoversFirsts j.now found.now sets) (λ r. MissesMerges j.now sets.0 sets.1 r) }
 {
     for n in 0..found.len() {
         if let Some(first) = found[n] {

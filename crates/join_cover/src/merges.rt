@@ -7,7 +7,7 @@ ghost use Rattle.entry_check.specs.Working.{IsMergeWork};
 ghost use Rattle.plan_check.specs.Placing.{ArePlaced, order_of};
 ghost use Rattle.plan_check.specs.Reasons.{AllRight};
 ghost use Rattle.join_cover.specs.Leasts.{IsLeastWhole};
-ghost use Rattle.join_cover.specs.Covering.{CoversMerge, CoversPlain, CoversPlainIn, CoversRow, CoversRowsIn, CoversWork, HasMergeList, IsNodeOfMerge, Misses, MissesMerge};
+ghost use Rattle.join_cover.specs.Covering.{CoversMerge, CoversPlain, CoversPlainIn, CoversRow, CoversRowsIn, CoversWork, HasMergeList, IsMergeNode, IsNodeOfMerge, MissesMerge, MissesWork};
 
 use crate::least::least_whole;
 use crate::uncovered::Uncovered;
@@ -20,7 +20,8 @@ fn merge_node(list: &[ClassNo], at: (usize, usize), sorts: (bool, bool)) -> Plai
     requires few { length list.now ≤ 3 }
     requires outer { at.0 < 2 ^ 32 - 1 }
     requires inner { at.1 < 2 ^ 32 - 1 }
-    ensures { IsNodeOfMerge list.now at sorts result }
+    ensures stands { IsNodeOfMerge list.now at sorts result }
+    ensures is { IsMergeNode list.now at result }
 {
     Plain::Merge {
         keys: [
@@ -100,7 +101,7 @@ fn open_sides(
     requires list { HasMergeList j.now work.now }
     requires outer { at.0 < length (certificate j.now.t.now).entries }
     requires inner { at.1 < length (certificate j.now.t.now).entries }
-    ensures { MatchOption result (CoversMerge j.now work.now at sorts) (λ r. Misses j.now r) }
+    ensures { MatchOption result (CoversMerge j.now work.now at sorts) (λ r. MissesWork j.now work.now r) }
 {
     let _few = j.t.entries.items();
     match open_merge(j, work, at, sorts, noted) {
@@ -143,7 +144,7 @@ fn open_plain(
     requires list { HasMergeList j.now work.now }
     requires outer { at.0 < length (certificate j.now.t.now).entries }
     requires inner { within.1 ≤ length (order_of j.now.places.now) }
-    ensures { MatchOption result (CoversPlainIn j.now work.now at within) (λ r. Misses j.now r) }
+    ensures { MatchOption result (CoversPlainIn j.now work.now at within) (λ r. MissesWork j.now work.now r) }
 {
     if !may_lead(j, work, at.0, at.1) {
         return None;
@@ -173,7 +174,7 @@ fn open_row(
     requires list { HasMergeList j.now work.now }
     requires outer { k < length (certificate j.now.t.now).entries }
     requires inner { least < length (certificate j.now.t.now).entries }
-    ensures { MatchOption result (CoversRow j.now work.now k sort least) (λ r. Misses j.now r) }
+    ensures { MatchOption result (CoversRow j.now work.now k sort least) (λ r. MissesWork j.now work.now r) }
 {
     let mut noted = k;
     if let Some(x) = open_sides(j, work, (k, least), (sort, true), &mut noted) {
@@ -198,7 +199,7 @@ fn open_rows(
     requires list { HasMergeList j.now work.now }
     requires outer { within.1 ≤ length (order_of j.now.places.now) }
     requires inner { least < length (certificate j.now.t.now).entries }
-    ensures { MatchOption result (CoversRowsIn j.now work.now within least) (λ r. Misses j.now r) }
+    ensures { MatchOption result (CoversRowsIn j.now work.now within least) (λ r. MissesWork j.now work.now r) }
 {
     for i in within.0..within.1 {
         let k = j.places.at(i);
@@ -220,7 +221,7 @@ fn open_from(j: &Judged, work: &MergeWork, least: (usize, usize)) -> Option<(Pla
     requires list { HasMergeList j.now work.now }
     requires outer { IsLeastWhole (certificate j.now.t.now).entries work.now.outer.0 least.0 }
     requires inner { IsLeastWhole (certificate j.now.t.now).entries work.now.inner.0 least.1 }
-    ensures { MatchOption result (CoversWork j.now work.now) (λ r. Misses j.now r) }
+    ensures { MatchOption result (CoversWork j.now work.now) (λ r. MissesWork j.now work.now r) }
 {
     if let Some(x) = open_row(j, work, least.0, true, least.1) {
         return Some(x);
@@ -238,7 +239,7 @@ pub fn open_work(j: &Judged, work: &MergeWork) -> Option<(Plain, Uncovered)>
     requires placed { ArePlaced (certificate j.now.t.now).entries j.now.places.now }
     requires work { IsMergeWork j.now.cat.now j.now.q.now work.now }
     requires list { HasMergeList j.now work.now }
-    ensures { MatchOption result (CoversWork j.now work.now) (λ r. Misses j.now r) }
+    ensures { MatchOption result (CoversWork j.now work.now) (λ r. MissesWork j.now work.now r) }
 {
     match least_whole(j, work.outer) {
         Some(k) => match least_whole(j, work.inner) {

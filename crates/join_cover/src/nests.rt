@@ -22,7 +22,7 @@ fn open_at(j: &Judged, work: &NestWork, k: usize, l: usize, noted: &mut usize) -
     requires work { IsNestWork j.now.cat.now j.now.q.now work.now }
     requires outer { k < length (certificate j.now.t.now).entries }
     requires inner { l < length (certificate j.now.t.now).entries }
-    ensures { MatchOption result (CoversNest j.now work.now k l) (λ x. MissesNestAt j.now k l x) }
+    ensures { MatchOption result (CoversNest j.now work.now k l) (λ x. MissesNestAt j.now work.now k l x) }
 {
     let entries = j.t.entries.items();
     let a = &entries[k];
@@ -63,7 +63,7 @@ fn open_inner(
     requires outer { k < length (certificate j.now.t.now).entries }
     requires inner { within.1 ≤ length (order_of j.now.places.now) }
     ensures { MatchOption result (CoversNestsIn j.now work.now k within)
-        (λ r. MissesNestWith j.now k r) }
+        (λ r. MissesNestWith j.now work.now k r) }
 {
     let mut noted = k;
     for i in within.0..within.1 {
@@ -89,7 +89,7 @@ fn open_outer(
     requires outer { outer.1 ≤ length (order_of j.now.places.now) }
     requires inner { inner.1 ≤ length (order_of j.now.places.now) }
     ensures { MatchOption result (CoversNestsBy j.now work.now outer inner)
-        (λ r. MissesNest j.now r) }
+        (λ r. MissesNest j.now work.now.outer work.now.inner r) }
 {
     let _few = j.t.entries.items();
     for i in outer.0..outer.1 {
@@ -108,7 +108,8 @@ pub fn open_nests(j: &Judged, outer: RelSet, inner: RelSet) -> Option<(u32, u32,
     requires query { IsOverTables j.now.cat.now j.now.q.now }
     requires right { AllRight j.now.cat.now j.now.q.now (certificate j.now.t.now) }
     requires placed { ArePlaced (certificate j.now.t.now).entries j.now.places.now }
-    ensures { MatchOption result (CoversNestsOf j.now outer inner) (λ r. MissesNest j.now r) }
+    ensures { MatchOption result (CoversNestsOf j.now outer inner)
+        (λ r. MissesNest j.now outer inner r) }
 {
     let work = nest_work_given(j.cat, j.q, outer, inner);
     let outers = j.places.range(outer);

@@ -16,7 +16,7 @@ use Rattle.plan_tree.specs.Space.{IsBuilt, IsSameSet}
 use Rattle.plan_tree.proofs.ElementLemmas.{is-listed, listed-on}
 use Rattle.plan_check.specs.Certificates.{Certificate}
 use Rattle.plan_check.specs.declared.verdict.Plain.{Plain}
-use Rattle.join_cover.specs.Serving.{IsOpen, IsServed}
+use Rattle.join_cover.specs.Serving.{IsServed}
 use Rattle.join_cover.specs.declared.uncovered.Uncovered.{Uncovered}
 use Rattle.scan_cover.specs.Scanning.{ArePlainScansServed, IsIndexServed, IsRelationServed, scan_by}
 use Rattle.scan_cover.proofs.GivenLemmas.{index-most}
@@ -41,9 +41,9 @@ module _ (c : Contents) (q : Query) (t : Certificate) where
 
   -- a scan by an index, either way, index-only or not
   pub four-ways : (r : RelNo) (p : RelSet) (i : IndexNo) → IsServed c q t (index r i false p) → IsServed c q t (index r i true p) → IsServed c q t (index_only r i false p) →
-      (last : Option (Plain × Uncovered)) → MatchOption last (IsServed c q t (index_only r i true p)) (λ x. IsOpen c q t x.0 x.1) → MatchOption last (IsIndexServed c q t r p i) (λ x. IsOpen c q t x.0 x.1)
-  four-ways r p i a b d (Some x) h = h
-  four-ways r p i a b d None h = by
+      (last : Option (Plain × Uncovered)) (S : Plain × Uncovered → Type 0) → MatchOption last (IsServed c q t (index_only r i true p)) S → MatchOption last (IsIndexServed c q t r p i) S
+  four-ways r p i a b d (Some x) S h = h
+  four-ways r p i a b d None S h = by
     where
       by : IsIndexServed c q t r p i
       by false false = a

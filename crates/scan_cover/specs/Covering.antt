@@ -19,6 +19,7 @@ use Rattle.plan_check.specs.declared.verdict.Plain.{Plain}
 use Rattle.join_cover.specs.entry_check_Owning.{tree_of}
 use Rattle.join_cover.specs.entry_check_numbers_Own.{Own}
 use Rattle.join_cover.specs.entry_check_scans_ByIndex.{ByIndex}
+use Rattle.join_cover.specs.Covering.{Misses}
 use Rattle.join_cover.specs.Serving.{IsOpen, IsServed}
 use Rattle.join_cover.specs.declared.uncovered.Uncovered.{Uncovered}
 use Rattle.scan_cover.specs.Scanning.{ArePlainScansServed, IsIndexServed, IsLeftOpen, IsRelationServed, IsScanWith}
@@ -29,6 +30,30 @@ use Rattle.sql_query.specs.Queries.{Query}
 use Rattle.plan_check.specs.Certificates.{Certificate}
 use Rattle.std.specs.Prelude.{ℕ}
 use Rattle.plan_check.specs.declared.verdict.Plain.TheVariants as plain
+
+-- data is for a scan of a relation, but none by a bitmap
+abbrev pub IsPlainScan : Plain → Type 0
+IsPlainScan (plain.Seq r) = Unit {0}
+IsPlainScan (plain.Index r i backward only param) = Unit {0}
+IsPlainScan (plain.Bitmap r param elements arms) = ⊥
+IsPlainScan (plain.Nest outer inner) = ⊥
+IsPlainScan (plain.Merge keys outer inner) = ⊥
+
+-- data is for a scan of a relation by a bitmap
+abbrev pub IsScanByBitmap : Plain → Type 0
+IsScanByBitmap (plain.Seq r) = ⊥
+IsScanByBitmap (plain.Index r i backward only param) = ⊥
+IsScanByBitmap (plain.Bitmap r param elements arms) = Unit {0}
+IsScanByBitmap (plain.Nest outer inner) = ⊥
+IsScanByBitmap (plain.Merge keys outer inner) = ⊥
+
+-- the certificate misses a scan, but none by a bitmap
+abbrev pub MissesPlainScan : Judged → Plain × Uncovered → Type 0
+MissesPlainScan j r = IsPlainScan r.0 × Misses j r
+
+-- the certificate misses a scan by a bitmap
+abbrev pub MissesBitmapScan : Judged → Plain × Uncovered → Type 0
+MissesBitmapScan j r = IsScanByBitmap r.0 × Misses j r
 
 -- the certificate covers the sequential scan of a relation
 abbrev pub CoversSeq : Judged → RelNo → Type 0

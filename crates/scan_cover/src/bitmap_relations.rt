@@ -9,8 +9,7 @@ ghost use Rattle.plan_check.specs.Views.{certificate};
 ghost use Rattle.plan_check.specs.Placing.{ArePlaced};
 ghost use Rattle.plan_check.specs.Reasons.{AllRight};
 ghost use Rattle.scan_cover.specs.Limits.{HasFewAtoms};
-ghost use Rattle.join_cover.specs.Covering.{Misses};
-ghost use Rattle.scan_cover.specs.Covering.{CoversAllBitmaps, CoversBitmaps, CoversRelationBitmaps};
+ghost use Rattle.scan_cover.specs.Covering.{CoversAllBitmaps, CoversBitmaps, CoversRelationBitmaps, MissesBitmapScan};
 
 use crate::elements::keep_all;
 use crate::entry_check::all_relations;
@@ -27,7 +26,7 @@ fn open_given(j: &Judged, at: Given) -> Option<(Plain, Uncovered)>
     requires right { AllRight j.now.cat.now j.now.q.now (certificate j.now.t.now) }
     requires placed { ArePlaced (certificate j.now.t.now).entries j.now.places.now }
     requires relation { at.rel.0 < width j.now.q.now }
-    ensures { MatchOption result (CoversBitmaps j.now at) (λ x. Misses j.now x) }
+    ensures { MatchOption result (CoversBitmaps j.now at) (λ x. MissesBitmapScan j.now x) }
 {
     let elements = first_elements(j.cat, j.q, at.rel, at.param);
     let kept = keep_all(j.cat, j.q, at.rel, at.param, elements.items());
@@ -42,7 +41,7 @@ fn open_relation(j: &Judged, rel: RelNo, all: RelSet) -> Option<(Plain, Uncovere
     requires placed { ArePlaced (certificate j.now.t.now).entries j.now.places.now }
     requires relation { rel.0 < width j.now.q.now }
     requires all { IsSameSet (has all.0) (all_of_query j.now.q.now) }
-    ensures { MatchOption result (CoversRelationBitmaps j.now rel) (λ x. Misses j.now x) }
+    ensures { MatchOption result (CoversRelationBitmaps j.now rel) (λ x. MissesBitmapScan j.now x) }
 {
     for bits in 0..all.0 as u32 + 1 {
         let param = RelSet(bits as u16);
@@ -62,7 +61,7 @@ pub fn open_bitmap_scan(j: &Judged) -> Option<(Plain, Uncovered)>
     requires atoms { HasFewAtoms j.now.q.now }
     requires right { AllRight j.now.cat.now j.now.q.now (certificate j.now.t.now) }
     requires placed { ArePlaced (certificate j.now.t.now).entries j.now.places.now }
-    ensures { MatchOption result (CoversAllBitmaps j.now) (λ x. Misses j.now x) }
+    ensures { MatchOption result (CoversAllBitmaps j.now) (λ x. MissesBitmapScan j.now x) }
 {
     let all = all_relations(j.q);
     for r in 0..range_of(j.q).items().len() {

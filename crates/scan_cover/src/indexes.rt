@@ -12,8 +12,7 @@ ghost use Rattle.plan_check.specs.Views.{certificate};
 ghost use Rattle.plan_check.specs.Placing.{ArePlaced};
 ghost use Rattle.plan_check.specs.Reasons.{AllRight};
 ghost use Rattle.join_cover.specs.entry_check_Owning.{tree_of};
-ghost use Rattle.join_cover.specs.Covering.{Misses};
-ghost use Rattle.scan_cover.specs.Covering.{CoversIndex, CoversScan, MissesScan};
+ghost use Rattle.scan_cover.specs.Covering.{CoversIndex, CoversScan, MissesPlainScan, MissesScan};
 
 use crate::numbers::open_with;
 use arrayvec::ArrayVec;
@@ -69,7 +68,7 @@ fn open_way(j: &Judged, s: ByIndex) -> Option<(Plain, Uncovered)>
     requires right { AllRight j.now.cat.now j.now.q.now (certificate j.now.t.now) }
     requires placed { ArePlaced (certificate j.now.t.now).entries j.now.places.now }
     requires relation { s.rel.0 < width j.now.q.now }
-    ensures { MatchOption result (CoversScan j.now s) (λ r. Misses j.now r) }
+    ensures { MatchOption result (CoversScan j.now s) (λ r. MissesPlainScan j.now r) }
 {
     match open_index(j, s) {
         Some(x) => Some((
@@ -98,7 +97,7 @@ pub(crate) fn open_by_index(
     requires right { AllRight j.now.cat.now j.now.q.now (certificate j.now.t.now) }
     requires placed { ArePlaced (certificate j.now.t.now).entries j.now.places.now }
     requires relation { r.0 < width j.now.q.now }
-    ensures { MatchOption result (CoversIndex j.now r p i) (λ x. Misses j.now x) }
+    ensures { MatchOption result (CoversIndex j.now r p i) (λ x. MissesPlainScan j.now x) }
 {
     let fetching = ByIndex {
         rel: r,

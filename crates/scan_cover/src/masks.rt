@@ -13,8 +13,7 @@ ghost use Rattle.plan_check.specs.Placing.{ArePlaced};
 ghost use Rattle.plan_check.specs.Reasons.{AllRight};
 ghost use Rattle.scan_cover.specs.Limits.{HasFewAtoms};
 ghost use Rattle.scan_cover.specs.Trees.{AreFirst, AreKept, IsKept, PutsAllArms, PutsArms, element_in};
-ghost use Rattle.join_cover.specs.Covering.{Misses};
-ghost use Rattle.scan_cover.specs.Covering.{CoversBitmaps, CoversMarked, IsNodeOfMarked, MissesMarked};
+ghost use Rattle.scan_cover.specs.Covering.{CoversBitmaps, CoversMarked, IsNodeOfMarked, IsScanByBitmap, MissesBitmapScan, MissesMarked};
 
 use crate::arms::put_least;
 use crate::entry_check::{numbers_of, rows_given};
@@ -136,7 +135,8 @@ fn node_of(cat: &Catalog, q: &Prepared, at: Given, kept: &[Kept], mask: usize) -
     requires mask { mask < 2 ^ length kept.now }
     requires first { AreFirst cat.now q.now at.rel at.param kept.now }
     requires kept { AreKept cat.now q.now at.rel at.param kept.now }
-    ensures { IsNodeOfMarked cat.now q.now at (marked mask kept.now) result }
+    ensures stands { IsNodeOfMarked cat.now q.now at (marked mask kept.now) result }
+    ensures kind { IsScanByBitmap result }
 {
     let mut arms = Arms::empty();
     put_all(cat, q, at, kept, mask, &mut arms);
@@ -167,7 +167,7 @@ pub(crate) fn open_marks(j: &Judged, at: Given, kept: &[Kept]) -> Option<(Plain,
     requires few { length kept.now ≤ 8 }
     requires first { AreFirst j.now.cat.now j.now.q.now at.rel at.param kept.now }
     requires kept { AreKept j.now.cat.now j.now.q.now at.rel at.param kept.now }
-    ensures { MatchOption result (CoversBitmaps j.now at) (λ x. Misses j.now x) }
+    ensures { MatchOption result (CoversBitmaps j.now at) (λ x. MissesBitmapScan j.now x) }
 {
     for mask in 0..sets_of(kept.len()) {
         if let Some(x) = open_mask(j, at, kept, mask) {

@@ -10,8 +10,7 @@ ghost use Rattle.sql_query.specs.Queries.{all_of_query, width};
 ghost use Rattle.plan_check.specs.Views.{certificate};
 ghost use Rattle.plan_check.specs.Placing.{ArePlaced};
 ghost use Rattle.plan_check.specs.Reasons.{AllRight};
-ghost use Rattle.join_cover.specs.Covering.{Misses};
-ghost use Rattle.scan_cover.specs.Covering.{CoversIndexes, CoversPlainScans, CoversRelation, CoversSeq, MissesSeq};
+ghost use Rattle.scan_cover.specs.Covering.{CoversIndexes, CoversPlainScans, CoversRelation, CoversSeq, MissesPlainScan, MissesSeq};
 
 use crate::indexes::open_by_index;
 use crate::numbers::open_with;
@@ -55,7 +54,7 @@ fn open_given(j: &Judged, r: RelNo, p: RelSet) -> Option<(Plain, Uncovered)>
     requires right { AllRight j.now.cat.now j.now.q.now (certificate j.now.t.now) }
     requires placed { ArePlaced (certificate j.now.t.now).entries j.now.places.now }
     requires relation { r.0 < width j.now.q.now }
-    ensures { MatchOption result (CoversIndexes j.now r p) (λ x. Misses j.now x) }
+    ensures { MatchOption result (CoversIndexes j.now r p) (λ x. MissesPlainScan j.now x) }
 {
     let indexes = indexes_of(j.cat, j.q, r);
     for i in indexes {
@@ -73,7 +72,7 @@ fn open_relation(j: &Judged, r: RelNo, all: RelSet) -> Option<(Plain, Uncovered)
     requires placed { ArePlaced (certificate j.now.t.now).entries j.now.places.now }
     requires relation { r.0 < width j.now.q.now }
     requires all { IsSameSet (has all.0) (all_of_query j.now.q.now) }
-    ensures { MatchOption result (CoversRelation j.now r) (λ x. Misses j.now x) }
+    ensures { MatchOption result (CoversRelation j.now r) (λ x. MissesPlainScan j.now x) }
 {
     if let Some(x) = open_seq(j, r) {
         return Some((Plain::Seq { rel: r }, x));
@@ -93,7 +92,7 @@ pub fn open_plain_scan(j: &Judged) -> Option<(Plain, Uncovered)>
     requires query { IsOverTables j.now.cat.now j.now.q.now }
     requires right { AllRight j.now.cat.now j.now.q.now (certificate j.now.t.now) }
     requires placed { ArePlaced (certificate j.now.t.now).entries j.now.places.now }
-    ensures { MatchOption result (CoversPlainScans j.now) (λ x. Misses j.now x) }
+    ensures { MatchOption result (CoversPlainScans j.now) (λ x. MissesPlainScan j.now x) }
 {
     let all = all_relations(j.q);
     for r in 0..range_of(j.q).items().len() {

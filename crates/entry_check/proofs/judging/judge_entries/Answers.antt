@@ -7,6 +7,9 @@ use Rattle.entry_check.proofs.judging.judge_entries.Goals as goal
 pub loop-n-init : goal.loop-n-init
 loop-n-init c = none-right c.args.cat.now c.args.q.now (certificate c.args.t.now)
 
+pub returns-in-Some : goal.returns-in-Some
+returns-in-Some c = record { place = c.loop-n.n; fault = c.in-Some.ensures.fault }
+
 pub returns : goal.returns
 returns c =
     let count = read-count (certificate c.args.t.now) c.args.t.now.entries c.items-n-end.result.now refl c.items-n-end.ensures.list in

@@ -9,3 +9,6 @@ loop-bits-preserved c = below-next (λ y. AreJoinsOf c.args.j.now.cat.now c.args
 
 pub returns : goal.returns
 returns c = λ y le. c.loop-bits.invariant y (omega (arith, le, c.loop-bits-test.false))
+
+pub returns-in-Some : goal.returns-in-Some
+returns-in-Some c = (c.args.outer, record { 0 = c.loop-bits.bits }, c.in-Some.ensures)

@@ -64,9 +64,12 @@ returns-else-covered c =
     let b = entry c.index-entries-l.result in
     let at = read-there t c.args.j.now.t.now.entries c.items-entries.result.now c.args.at.0 c.index-entries-k.result refl c.items-entries.ensures.list c.requires.outer c.index-entries-k.is in
     let at' = read-there t c.args.j.now.t.now.entries c.items-entries.result.now c.args.at.1 c.index-entries-l.result refl c.items-entries.ensures.list c.requires.inner c.index-entries-l.is in
-    let keys = class_numbers c.args.work.now.list.now in
-    merge-open c.args.j.now.cat.now c.args.j.now.q.now (certificate c.args.j.now.t.now) c.requires.right c.args.at.0 c.args.at.1 a b at at' keys c.args.sorts.0 c.args.sorts.1 (candidate c.in-Some.x) c.in-Some.ensures.some _
-    (unbeaten-read c.args.j.now.q.now.window t c.args.j.now.t.now.entries c.items-entries.result.now (candidate c.in-Some.x) refl c.items-entries.ensures.list (c.is_covered-covered.ensures.no c.if-covered.false)) c.counted.ensures refl refl
+    let keys = class_numbers c.args.work.now.list.now in (
+      record { entry = a; stands = at; same = c.if-a-work.false },
+      record { entry = b; stands = at'; same = c.if-b-work.false },
+      merge-open c.args.j.now.cat.now c.args.j.now.q.now (certificate c.args.j.now.t.now) c.requires.right c.args.at.0 c.args.at.1 a b at at' keys c.args.sorts.0 c.args.sorts.1 (candidate c.in-Some.x) c.in-Some.ensures.some _
+          (unbeaten-read c.args.j.now.q.now.window t c.args.j.now.t.now.entries c.items-entries.result.now (candidate c.in-Some.x) refl c.items-entries.ensures.list (c.is_covered-covered.ensures.no c.if-covered.false)) c.counted.ensures refl refl,
+    )
 
 pub returns-in-None : goal.returns-in-None
 returns-in-None c =

@@ -53,9 +53,12 @@ returns-else-covered c =
     let a = entry c.index-entries-k.result in
     let b = entry c.index-entries-l.result in
     let at = read-there t c.args.j.now.t.now.entries c.items-entries.result.now c.args.k c.index-entries-k.result refl c.items-entries.ensures.list c.requires.outer c.index-entries-k.is in
-    let at' = read-there t c.args.j.now.t.now.entries c.items-entries.result.now c.args.l c.index-entries-l.result refl c.items-entries.ensures.list c.requires.inner c.index-entries-l.is in
-    nest-open c.args.j.now.cat.now c.args.j.now.q.now (certificate c.args.j.now.t.now) c.requires.right c.args.k c.args.l a b at at' (candidate c.in-Some.x) c.in-Some.ensures.some _
-    (unbeaten-read c.args.j.now.q.now.window t c.args.j.now.t.now.entries c.items-entries.result.now (candidate c.in-Some.x) refl c.items-entries.ensures.list (c.is_covered-covered.ensures.no c.if-covered.false)) c.counted.ensures refl refl
+    let at' = read-there t c.args.j.now.t.now.entries c.items-entries.result.now c.args.l c.index-entries-l.result refl c.items-entries.ensures.list c.requires.inner c.index-entries-l.is in (
+      record { entry = a; stands = at; same = c.if-a-work.false },
+      record { entry = b; stands = at'; same = c.if-b-work.false },
+      nest-open c.args.j.now.cat.now c.args.j.now.q.now (certificate c.args.j.now.t.now) c.requires.right c.args.k c.args.l a b at at' (candidate c.in-Some.x) c.in-Some.ensures.some _
+          (unbeaten-read c.args.j.now.q.now.window t c.args.j.now.t.now.entries c.items-entries.result.now (candidate c.in-Some.x) refl c.items-entries.ensures.list (c.is_covered-covered.ensures.no c.if-covered.false)) c.counted.ensures refl refl,
+    )
 
 pub returns-in-None : goal.returns-in-None
 returns-in-None c =

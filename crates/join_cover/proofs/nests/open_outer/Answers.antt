@@ -24,7 +24,10 @@ returns-in-Some c =
     let l = c.in-Some.l in
     let one : suc k ≡ k + 1 = omega arith in
     let two : suc l ≡ l + 1 = omega arith in
-    subst₂ (λ m n. IsOpen c.args.j.now.cat.now c.args.j.now.q.now (certificate c.args.j.now.t.now) (plain.Nest m n) c.in-Some.x) one two c.in-Some.ensures.1
+    let found = c.in-Some.ensures.1 in (
+      (record { place = k; is = omega arith; of = found.0 }, record { place = l; is = omega arith; of = found.1 }),
+      subst₂ (λ m n. IsOpen c.args.j.now.cat.now c.args.j.now.q.now (certificate c.args.j.now.t.now) (plain.Nest m n) c.in-Some.x) one two found.2,
+    )
 
 pub returns : goal.returns
 returns c = λ m n le lt. c.loop-i.invariant m n le (omega (arith, lt, c.loop-i-test.false))

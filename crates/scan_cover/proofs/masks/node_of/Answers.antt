@@ -8,8 +8,8 @@ use Rattle.scan_cover.proofs.masks.node_of.Goals as goal
 pub put_all-requires-clause-made : goal.put_all-requires-clause-made
 put_all-requires-clause-made c = first-made c.args.cat.now c.args.q.now c.args.at.rel c.args.at.param c.args.kept.now c.requires.first
 
-pub returns : goal.returns
-returns c =
+pub returns-clause-stands : goal.returns-clause-stands
+returns-clause-stands c =
     let put = c.put_all.ensures in
     let few = arms-few c.args.cat.now c.args.q.now c.args.at.rel c.args.at.param c.args.kept.now c.args.mask put.0 put.1 c.requires.atoms c.requires.first in
     let filled = put.2 [] c.empty-arms.ensures in (

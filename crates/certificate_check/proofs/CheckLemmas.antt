@@ -2,11 +2,18 @@
 use Rattle.std.proofs.Common.{◌≡◌, ◌≤◌, true, false, List, map, refl, sym, ap, subst, ◌∙◌, inl, inr}
 use Rattle.std.specs.Prelude.{MatchOption, Option, Some, None}
 use Rattle.catalog.specs.Contents.{Contents}
+use Rattle.pathkeys.specs.Keys.{Keys}
 use Rattle.sql_query.specs.Queries.{Query}
+use Rattle.sql_query.specs.Tuples.{Tuple}
+use Rattle.sql_query.specs.WellBound.{IsWellBound}
+use Rattle.sql_query.specs.Worlds.{IsWorld, World}
 use Rattle.plan_laws.specs.Closed.{is_scan}
 use Rattle.plan_tree.specs.Costs.{HaveRows, price}
 use Rattle.plan_tree.specs.Least.{IsAdmissible}
-use Rattle.plan_tree.specs.Plans.{Plan, seq, index, index_only, bitmap, sort, nest, merge, is_sort}
+use Rattle.plan_tree.specs.Keys.{keys_of}
+use Rattle.plan_tree.specs.Plans.{Plan, seq, index, index_only, bitmap, sort, nest, merge, is_sort, set_of}
+use Rattle.plan_tree.specs.Run.{run}
+use Rattle.plan_tree.specs.Sorted.{AreSorted}
 use Rattle.plan_tree.specs.Space.{IsBuilt, IsFinished}
 use Rattle.plan_check.specs.Certificates.{Certificate, Entry, finish_at}
 use Rattle.plan_check.specs.Tables.{IsDominated, IsLeastAmong, IsOver, IsPlanTable}
@@ -21,10 +28,14 @@ use Rattle.plan_check.specs.declared.verdict.Plain.{Plain}
 use Rattle.plan_check.specs.declared.verdict.Verdict.{Verdict}
 use Rattle.plan_check.specs.declared.verdict.Verdict.TheVariants as verdicts
 use Rattle.plan_check.proofs.ReasonLemmas.{table-from}
+use Rattle.certificate_check.specs.Checked.{AreSortedByKeys}
 use Rattle.scan_cover.specs.Trees.{AreAllBitmapsServed}
 use Rattle.scan_cover.specs.join_cover_Serving.{AreJoinsServed, IsOpen, IsServed}
 use Rattle.scan_cover.specs.join_cover_uncovered_Uncovered.{Uncovered}
 use Rattle.scan_cover.specs.Scanning.{ArePlainScansServed}
+
+some-same : (x y : Plan) → Some x ≡ Some y → x ≡ y
+some-same x y e = cc
 
 module _ (c : Contents) (q : Query) (t : Certificate) where
   scans-served : ArePlainScansServed c q t → AreAllBitmapsServed c q t → (p : Plan) → is_scan p ≡ true → IsServed c q t p
@@ -64,9 +75,17 @@ module _ (c : Contents) (q : Query) (t : Certificate) where
   valid-best some v h e best is =
       let table = table-of v e h in
       (subst (IsFinished c q) (some-same table.best.plan best (sym table.best.is ∙ is)) table.best.finished, best-least c q t table some best is)
-    where
-      some-same : (x y : Plan) → Some x ≡ Some y → x ≡ y
-      some-same x y e = cc
+
+  -- the tuples of an entry's plan are sorted by the keys that the entry says
+  pub valid-sorted : ((w : World) (p : Plan) (o : Tuple) → IsWorld w → IsWellBound w.contents q → IsBuilt w.contents q p → AreSorted w q (set_of p) (keys_of w.contents q p) (run w q p o)) →
+      (v : Verdict) → IsVerdict c q t v → v ≡ verdicts.Valid → AreSortedByKeys c q t
+  valid-sorted sorts v h e w same world bound n x p there unfolds o =
+      let stands = (table-of v e h).entries n x there in
+      let is : stands.plan ≡ p = some-same stands.plan p (sym stands.unfolds ∙ unfolds) in
+      let built : IsBuilt c q p = subst (IsBuilt c q) is stands.has.plan.built in
+      let says : x.keys ≡ keys_of w.contents q p = stands.has.keys ∙ ap (keys_of c q) is ∙ ap (λ (d : Contents). keys_of d q p) (sym same) in
+      subst (λ (ks : Keys). AreSorted w q (set_of p) ks (run w q p o)) (sym says)
+      (sorts w p o world (subst (λ (d : Contents). IsWellBound d q) (sym same) bound) (subst (λ (d : Contents). IsBuilt d q p) (sym same) built))
 
 -- the places of the entries as they were read
 pub placed-there : (t : Certificate) (xs items : List Entered) (p : SetPlaces) → t.entries ≡ map entry xs → items ≡ xs → ArePlaced (map entry items) p → ArePlaced t.entries p

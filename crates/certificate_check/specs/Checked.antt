@@ -1,12 +1,17 @@
 -- What a certificate without fault says. Own.
-use Rattle.std.specs.Prelude.{◌≡◌, ◌≤◌, ℕ, false, Option, Some, MatchOption}
+use Rattle.std.specs.Prelude.{◌≡◌, ◌≤◌, ℕ, suc, false, slice_get, Option, Some, MatchOption}
 use Rattle.catalog.specs.Contents.{Contents}
 use Rattle.sql_query.specs.Queries.{Query}
+use Rattle.sql_query.specs.Tuples.{Tuple}
+use Rattle.sql_query.specs.WellBound.{IsWellBound}
+use Rattle.sql_query.specs.Worlds.{IsWorld, World}
 use Rattle.plan_tree.specs.Costs.{price}
 use Rattle.plan_tree.specs.Least.{IsAdmissible}
-use Rattle.plan_tree.specs.Plans.{Plan, is_sort}
+use Rattle.plan_tree.specs.Plans.{Plan, is_sort, set_of}
+use Rattle.plan_tree.specs.Run.{run}
+use Rattle.plan_tree.specs.Sorted.{AreSorted}
 use Rattle.plan_tree.specs.Space.{IsBuilt, IsFinished}
-use Rattle.plan_check.specs.Certificates.{Certificate, finish_at}
+use Rattle.plan_check.specs.Certificates.{Certificate, Entry, finish_at, unfold_at}
 use Rattle.plan_check.specs.Tables.{IsDominated, IsLeastAmong, IsOver}
 use Rattle.entry_check.specs.plan_check_Reasons.{HasBest, IsNotBest}
 
@@ -23,6 +28,14 @@ module _ (c : Contents) (q : Query) where
   -- the best plan is a finished one of the least price
   abbrev pub HasCheapest : Certificate → Type 0
   HasCheapest t = (best : Plan) → finish_at q t t.best ≡ Some best → IsFinished c q best × CostsLeast best
+
+  -- the tuples of each entry's plan are sorted by the keys that the entry says, in each world of the catalogue in which the
+  -- query is well bound, whatever rows the plan is given
+  abbrev pub AreSortedByKeys : Certificate → Type 0
+  AreSortedByKeys t =
+      (w : World) → w.contents ≡ c → IsWorld w → IsWellBound c q →
+      (n : ℕ) (e : Entry) (p : Plan) → slice_get t.entries n ≡ Some e → unfold_at q t (suc n) ≡ Some p →
+      (o : Tuple) → AreSorted w q (set_of p) e.keys (run w q p o)
 
   -- the best plan is the least of those over the entries, or else this is its price and a smaller one
   abbrev pub JudgesBest : Certificate → Option (ℕ × ℕ) → Type 0

@@ -9,12 +9,13 @@ ghost use Rattle.plan_check.specs.Placing.{ArePlaced};
 ghost use Rattle.plan_check.specs.Reasons.{AreUndominated};
 ghost use Rattle.plan_check.specs.Verdicts.{AreWhole, IsVerdict};
 ghost use Rattle.plan_check.specs.declared.verdict.Verdict.TheVariants as verdicts;
-ghost use Rattle.certificate_check.specs.Checked.{HasCheapest, LeavesNoneOut};
+ghost use Rattle.certificate_check.specs.Checked.{AreSortedByKeys, HasCheapest, LeavesNoneOut};
 
 use crate::cover::open_candidate;
 use crate::judge_best;
 use catalog::Catalog;
 use plan_check::{Certificate, Judged, Reason, SetPlaces, Verdict};
+use plan_laws::plans_are_sorted;
 use scan_cover::entry_check::judge_table;
 use sql_query::Prepared;
 
@@ -60,14 +61,17 @@ fn judge_all(j: &Judged) -> Verdict
 /// number of it that is not its own; a best plan that is not finished; the first entry that another dominates, and the
 /// first that does; a plan that an entry must dominate and none does; a best plan that is not the least. Where it is valid,
 /// each admissible plan of the plan space that is no sort is dominated by an entry; where some finished plan is admissible
-/// the best plan is, and is of no greater price; where the best plan is not admissible, none is. It takes no memory.
+/// the best plan is, and is of no greater price; where the best plan is not admissible, none is; and the rows of each entry's
+/// plan are sorted by the keys that the entry says. It takes no memory.
 pub fn check(cat: &Catalog, q: &Prepared, t: &Certificate) -> Verdict
     requires query { IsOverTables cat.now q.now }
     requires atoms { HasFewAtoms q.now }
     ensures verdict { IsVerdict cat.now q.now (certificate t.now) result }
     ensures dominated { result ≡ verdicts.Valid → LeavesNoneOut cat.now q.now (certificate t.now) }
     ensures best { result ≡ verdicts.Valid → HasCheapest cat.now q.now (certificate t.now) }
+    ensures sorted { result ≡ verdicts.Valid → AreSortedByKeys cat.now q.now (certificate t.now) }
 {
+    plans_are_sorted();
     cat.lawful();
     let places = SetPlaces::of(t.entries.items(), t.entries.order());
     let j = Judged {

@@ -1,5 +1,6 @@
 pub mod Numbers
 pub mod Drawn
+pub mod Opening
 pub mod EState
 pub mod Probe
 pub mod Pairs

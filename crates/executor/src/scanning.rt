@@ -1,6 +1,6 @@
 //! Scans that are drawn from.
 
-ghost use Rattle.std.specs.Prelude.{◌≡◌, ◌≤◌, ◌+◌, true, length, IfOk, IfSome, IfNone};
+ghost use Rattle.std.specs.Prelude.{◌≡◌, ◌≤◌, ◌+◌, true, length, IfOk, IfSome, IfNone, OnOk};
 ghost use Rattle.heap.specs.Tuples.{rank};
 ghost use Rattle.sql_query.specs.Queries.{Query};
 ghost use Rattle.plan_tree.specs.Views.{plan};
@@ -9,7 +9,7 @@ ghost use Rattle.scan_exec.specs.Plans.{IsScan};
 ghost use Rattle.plan_laws.specs.Closed.{is_scan};
 ghost use Rattle.executor.specs.EState.{IsOverStore};
 ghost use Rattle.executor.specs.Node.{IsNextScanned, IsScanning, IsSpentScanning, scanning_left, scanning_set};
-ghost use Rattle.executor.specs.AtState.{IsDrawableAt, whole_coming, whole_fetches, whole_looks, whole_run};
+ghost use Rattle.executor.specs.AtState.{IsDrawableAt, whole_coming, whole_fetches, whole_looks, whole_opening, whole_run};
 
 use crate::estate::EState;
 use crate::tuple::Tuple;
@@ -38,6 +38,7 @@ pub(crate) fn start_scanning<'a, C: Counters>(
     ensures good { IfOk result (λ s. IsScanning s) }
     ensures plan { IfOk result (λ s. s.plan.now ≡ p.now) }
     ensures one { is_scan (plan p.now) ≡ true }
+    ensures opening { OnOk result (whole_opening at.now (plan p.now) ≡ 0) }
     ensures left { IfOk result (λ s. scanning_left at.now.q.now s ≡ whole_run at.now (plan p.now)) }
     ensures owed { IfOk result (λ s. owed s.rows ≡ whole_fetches at.now (plan p.now)) }
     ensures coming { IfOk result (λ s. s.rows ≡ whole_coming at.now (plan p.now)) }
@@ -67,6 +68,7 @@ pub(crate) fn next_scanned<'a, C: Counters>(
     ensures none { IfOk result (λ o. IfNone o (IsSpentScanning scanning.old scanning.new)) }
     ensures rest { scanning.new.rows ≡ behind is_given scanning.old.rows }
     ensures exact { fetches.new + owed scanning.new.rows ≡ fetches.old + owed scanning.old.rows }
+    ensures rise { fetches.old ≤ fetches.new }
     ensures reads { reads.new + looks_allowed scanning.new.rows ≤ reads.old + looks_allowed scanning.old.rows }
 {
     match scanning.rows.next(fetches, reads) {

@@ -44,7 +44,7 @@ module _ (c : Contents) (g : GroupedQuery) (x : Chosen) (is : IsChosen c g x) wh
     reply = reply;
     answers = is_reply;
     gained = gained;
-    fetched = record { within = omega arith; exact = refl };
+    fetched = record { above = omega arith; within = omega arith; exact = refl };
     looked = omega arith;
   }
 

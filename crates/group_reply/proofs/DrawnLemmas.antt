@@ -55,7 +55,7 @@ module _ (w : World) (q : Query) (asked : GroupedQuery) (t : GroupTask) (chosen 
           reply = reply;
           answers = refl;
           gained = subst P bytes-are gained;
-          fetched = record { within = omega (arith, fetched, owed); exact = omega (arith, fetched, owed) };
+          fetched = record { above = omega (arith, fetched, owed); within = omega (arith, fetched, owed); exact = omega (arith, fetched, owed) };
           looked = few;
         }
 

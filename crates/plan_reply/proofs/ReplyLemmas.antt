@@ -14,6 +14,7 @@ use Rattle.plan_tree.specs.Plans.{Plan}
 use Rattle.plan_tree.specs.Views.{plan}
 use Rattle.reply.specs.scan_exec_Coming.{Coming, coming}
 use Rattle.plan_laws.specs.Closed.{is_scan}
+use Rattle.executor.specs.Opening.{opening_fetches}
 use Rattle.executor.specs.Reading.{Reading}
 use Rattle.reply.specs.explain_Texts.{plan_text}
 use Rattle.reply.specs.plan_laws_FinishedLemmas.{finished_is_meaning}
@@ -40,7 +41,7 @@ module _ (w : World) (q : Query) (block line : List ℕ) (is : IsRefusedPlan w.c
     pub line-replied : {E : Type 0} (result : Result (Unit {0}) E) (text : List ℕ) → text ≡ line → OnOk result (Appends a b text) → OnOk result (HasReplied (IsPlanReplyTo w q block) (traces a f l) (traces b f l))
     line-replied (Ok u) text same gained =
         let P : List ℕ → Type 0 = λ x. Appends a b x in
-        record { reply = line_reply; answers = line-answers; gained = subst P same gained; fetched = record { within = omega arith; exact = omega arith }; looked = omega arith }
+        record { reply = line_reply; answers = line-answers; gained = subst P same gained; fetched = record { above = omega arith; within = omega arith; exact = omega arith }; looked = omega arith }
     line-replied (Err e) text same gained = tt
 
     pub line-begun : {E : Type 0} (result : Result (Unit {0}) E) (text : List ℕ) → text ≡ line → OnErr result (AppendsPrefix a b text) → OnErr result (HasBegun (IsPlanReplyTo w q block) (traces a f l) (traces b f l))
@@ -80,10 +81,10 @@ module _ (w : World) (q : Query) (block : List ℕ) (p : Plan) (world : IsWorld 
   begun-none a f l gained = record { reply = answer_reply; answers = answers; gained = gained; fetched = omega arith; looked = omega arith }
 
   -- what a call did that printed the block and the tuples of a reading, where these are the plan's
-  module _ (r : Reading) (a b : Option (List ℕ)) (f f' l l' : ℕ) (left : r.left ≡ tuples_of w q p) (owed : r.owed ≡ fetches w q p (no_rows q)) (allowed : r.allowed ≡ looks w q p (no_rows q))
+  module _ (r : Reading) (a b : Option (List ℕ)) (f f' l l' : ℕ) (left : r.left ≡ tuples_of w q p) (owed : r.owed ≡ fetches w q p (no_rows q)) (opening : r.opening ≡ opening_fetches w q p) (allowed : r.allowed ≡ looks w q p (no_rows q))
       (one : r.one ≡ is_scan p) (come : r.coming ≡ coming w q p (no_rows q)) where
     abbrev rise : Rise
-    rise = fetched_by (last_in q.window) (length r.left) r.owed r.one r.coming
+    rise = fetched_by (last_in q.window) (length r.left) r.owed r.opening r.one r.coming
 
     abbrev most_looks : ℕ
     most_looks = looked_by (last_in q.window) r.allowed (length (windowed q.window r.left))
@@ -93,8 +94,9 @@ module _ (w : World) (q : Query) (block : List ℕ) (p : Plan) (world : IsWorld 
 
     rise-is : rise ≡ answer_fetches w q p
     rise-is =
-        ap₂ (λ (ts : List Tuple) (n : ℕ). fetched_by (last_in q.window) (length ts) n r.one r.coming) left owed
-        ∙ ap₂ (λ (x : Bool) (cs : List Coming). fetched_by (last_in q.window) (length (tuples_of w q p)) (fetches w q p (no_rows q)) x cs) one come
+        ap₂ (λ (ts : List Tuple) (n : ℕ). fetched_by (last_in q.window) (length ts) n r.opening r.one r.coming) left owed
+        ∙ ap (λ (n : ℕ). fetched_by (last_in q.window) (length (tuples_of w q p)) (fetches w q p (no_rows q)) n r.one r.coming) opening
+        ∙ ap₂ (λ (x : Bool) (cs : List Coming). fetched_by (last_in q.window) (length (tuples_of w q p)) (fetches w q p (no_rows q)) (opening_fetches w q p) x cs) one come
 
     looks-are : most_looks ≡ answer_looks w q p
     looks-are = ap₂ (λ (n : ℕ) (ts : List Tuple). looked_by (last_in q.window) n (length (windowed q.window ts))) allowed left

@@ -18,7 +18,7 @@ module _ (c : Contents) (q : Query) (bytes : List ℕ) (text : IsTabledText c q 
   is_reply = record { text = text; fetched = refl; looked = refl }
 
   replied : Appends a b bytes → HasReplied (IsTableOf c q) (traces a 0 0) (traces b 0 0)
-  replied gained = record { reply = reply; answers = is_reply; gained = gained; fetched = record { within = omega arith; exact = refl }; looked = omega arith }
+  replied gained = record { reply = reply; answers = is_reply; gained = gained; fetched = record { above = omega arith; within = omega arith; exact = refl }; looked = omega arith }
 
   begun : AppendsPrefix a b bytes → HasBegun (IsTableOf c q) (traces a 0 0) (traces b 0 0)
   begun gained = record { reply = reply; answers = is_reply; gained = gained; fetched = omega arith; looked = omega arith }

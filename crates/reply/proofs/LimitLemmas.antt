@@ -66,15 +66,34 @@ draws_none r f = record {
   none = λ is. (refl, refl);
   ended = λ few. absurd (omega (arith, few));
   exact = refl;
+  rise = omega arith;
+  opened = λ some. absurd (omega (arith, some));
   coming = λ some. refl;
   paced = λ is. refl;
 }
 
 -- one tuple is drawn behind n others, or none is left
-module _ (n : ℕ) (first now later : Reading) (f f' f'' : ℕ) (is : Draws n first now f f') (one : later.one ≡ now.one) (exact : f'' + later.owed ≡ f' + now.owed)
+module _ (n : ℕ) (first now later : Reading) (f f' f'' : ℕ) (is : Draws n first now f f') (one : later.one ≡ now.one) (exact : f'' + later.owed ≡ f' + now.owed) (opened : f' + now.opening ≤ f'')
     (paced : now.one ≡ true → f'' + owed later.coming ≡ f' + owed now.coming) where
   paced_on : first.one ≡ true → f'' + owed later.coming ≡ f + owed first.coming
   paced_on is_one = omega (arith, paced (is.one ∙ is_one), is.paced is_one)
+
+  rise_on : f ≤ f''
+  rise_on = omega (arith, opened, is.rise)
+
+  opened_on : f + first.opening ≤ f''
+  opened_on = by (nat_eq n 0) refl
+    where
+      by : (b : Bool) → nat_eq n 0 ≡ b → f + first.opening ≤ f''
+      by true e =
+          let none : n ≡ 0 = grind (arith, nat_tests) in
+          let same : now.opening ≡ first.opening = ap (λ (r : Reading). r.opening) (is.none none).0 in
+          let fetched : f' ≡ f = (is.none none).1 in
+          omega (arith, opened, same, fetched)
+      by false e =
+          let some : 0 < n = grind (arith, nat_tests) in
+          let before : f + first.opening ≤ f' = is.opened some in
+          omega (arith, opened, before)
 
   module _ (t : Tuple) (left : now.left ≡ t ∷ later.left) where
     pub enough : n + 1 ≤ length first.left
@@ -87,6 +106,8 @@ module _ (n : ℕ) (first now later : Reading) (f f' f'' : ℕ) (is : Draws n fi
       none = λ none. absurd (omega (arith, none));
       ended = λ few. absurd (omega (arith, few, enough));
       exact = omega (arith, exact, is.exact);
+      rise = rise_on;
+      opened = λ some. opened_on;
       coming = λ some. coming ∙ ap (behind is_given) (is.coming (omega (arith, enough))) ∙ sym (past_more is_given n first.coming);
       paced = paced_on;
     }
@@ -102,6 +123,8 @@ module _ (n : ℕ) (first now later : Reading) (f f' f'' : ℕ) (is : Draws n fi
       none = λ is. absurd (omega (arith, less, is));
       ended = λ few. owed;
       exact = omega (arith, exact, is.exact);
+      rise = rise_on;
+      opened = λ some. opened_on;
       coming = λ some. absurd (omega (arith, some, less, all_drawn));
       paced = paced_on;
     }
@@ -128,6 +151,21 @@ module _ (n m : ℕ) (first mid now : Reading) (f f' f'' : ℕ) (is : Draws n fi
       let two = more.none (omega (arith, none)) in
       (two.0 ∙ one.0, two.1 ∙ one.1)
 
+  opened_then : 0 < n + m → f + first.opening ≤ f''
+  opened_then some = by (nat_eq n 0) refl
+    where
+      by : (b : Bool) → nat_eq n 0 ≡ b → f + first.opening ≤ f''
+      by true e =
+          let none : n ≡ 0 = grind (arith, nat_tests) in
+          let same : mid.opening ≡ first.opening = ap (λ (r : Reading). r.opening) (is.none none).0 in
+          let fetched : f' ≡ f = (is.none none).1 in
+          let behind : f' + mid.opening ≤ f'' = more.opened (omega (arith, some, none)) in
+          omega (arith, behind, same, fetched)
+      by false e =
+          let few : 0 < n = grind (arith, nat_tests) in
+          let before : f + first.opening ≤ f' = is.opened few in
+          omega (arith, before, more.rise)
+
   pub draws_then : Draws (n + m) first now f f''
   draws_then = record {
     left = more.left ∙ ap (drop m) is.left ∙ drop-drop m n first.left;
@@ -135,6 +173,8 @@ module _ (n m : ℕ) (first mid now : Reading) (f f' f'' : ℕ) (is : Draws n fi
     none = none_then;
     ended = ended_then;
     exact = omega (arith, more.exact, is.exact);
+    rise = omega (arith, is.rise, more.rise);
+    opened = opened_then;
     coming = λ some. more.coming (omega (arith, some, behind_them)) ∙ ap (past is_given m) (is.coming (omega (arith, some))) ∙ past_past is_given n m first.coming;
     paced = λ is_one. omega (arith, more.paced (is.one ∙ is_one), is.paced is_one);
   }
@@ -149,26 +189,28 @@ module _ (n : ℕ) (first now : Reading) (f f' : ℕ) (is : Draws n first now f 
   whole_is false true some is_one = of_scan is_one (grind (arith, nat_tests))
   whole_is false false some is_one = tt
 
-  pub risen_to : HasRisen (fetched_to n (length first.left) first.owed first.one first.coming) f f'
+  pub risen_to : HasRisen (fetched_to n (length first.left) first.owed first.opening first.one first.coming) f f'
   risen_to = by (nat_eq n 0) refl
     where
       whole : IfSome (cond (nat_lt (length first.left) n) (Some first.owed) (cond first.one (Some (owed (through is_given n first.coming))) None)) (λ k. f' ≡ f + k)
       whole = whole_is (nat_lt (length first.left) n) first.one refl refl
 
       by : (b : Bool) → nat_eq n 0 ≡ b →
-          HasRisen (cond b (exactly 0) (record { most = first.owed; whole = cond (nat_lt (length first.left) n) (Some first.owed) (cond first.one (Some (owed (through is_given n first.coming))) None) })) f f'
+          HasRisen (cond b (exactly 0) (record { least = first.opening; most = first.owed; whole = cond (nat_lt (length first.left) n) (Some first.owed) (cond first.one (Some (owed (through is_given n first.coming))) None) })) f f'
       by true e =
           let same : f' ≡ f = (is.none (grind (arith, nat_tests))).1 in
-          record { within = omega (arith, same); exact = omega (arith, same) }
-      by false e = record { within = omega (arith, is.exact); exact = whole }
+          record { above = omega (arith, same); within = omega (arith, same); exact = omega (arith, same) }
+      by false e =
+          let some : 0 < n = grind (arith, nat_tests) in
+          record { above = is.opened some; within = omega (arith, is.exact); exact = whole }
 
 -- without LIMIT all are drawn
 pub risen_all : (n : ℕ) (first now : Reading) (f f' : ℕ) → Draws n first now f f' → length first.left < n → HasRisen (exactly first.owed) f f'
-risen_all n first now f f' is few = let e : f' ≡ f + first.owed = omega (arith, is.exact, is.ended few) in record { within = omega (arith, e); exact = e }
+risen_all n first now f f' is few = let e : f' ≡ f + first.owed = omega (arith, is.exact, is.ended few) in record { above = omega (arith, e); within = omega (arith, e); exact = e }
 
 -- what is fetched behind the tuples passed over, up to the last one that is drawn
 pub risen_by : (limit : Option ℕ) (offset : ℕ) (first mid now : Reading) (f f' f'' : ℕ) → Draws offset first mid f f' → Draws (drawn_by limit mid.left) mid now f' f''
-    → HasRisen (fetched_by (last_by offset limit) (length first.left) first.owed first.one first.coming) f f''
+    → HasRisen (fetched_by (last_by offset limit) (length first.left) first.owed first.opening first.one first.coming) f f''
 risen_by None offset first mid now f f' f'' passed shown =
     risen_all (offset + (length mid.left + 1)) first now f f'' (draws_then offset (length mid.left + 1) first mid now f f' f'' passed shown)
     (omega (arith, behind_them offset (length mid.left + 1) first mid now f f' f'' passed shown))
@@ -176,14 +218,14 @@ risen_by (Some n) offset first mid now f f' f'' passed shown = risen_to (offset 
 
 -- no more is fetched, nor looked at, than in all, and nothing for no tuple
 pub few_by : (limit : Option ℕ) (offset : ℕ) (first : Reading) (f f' : ℕ) → f' ≤ f + first.owed → (limit ≡ Some 0 → offset ≡ 0 → f' ≡ f)
-    → f' ≤ f + (fetched_by (last_by offset limit) (length first.left) first.owed first.one first.coming).most
+    → f' ≤ f + (fetched_by (last_by offset limit) (length first.left) first.owed first.opening first.one first.coming).most
 few_by None offset first f f' most none = most
 few_by (Some n) offset first f f' most none = by (nat_eq (offset + n) 0) refl
   where
     whole : Option ℕ
     whole = cond (nat_lt (length first.left) (offset + n)) (Some first.owed) (cond first.one (Some (owed (through is_given (offset + n) first.coming))) None)
 
-    by : (b : Bool) → nat_eq (offset + n) 0 ≡ b → f' ≤ f + (cond b (exactly 0) (record { most = first.owed; whole = whole })).most
+    by : (b : Bool) → nat_eq (offset + n) 0 ≡ b → f' ≤ f + (cond b (exactly 0) (record { least = first.opening; most = first.owed; whole = whole })).most
     by true e =
         let n_is : n ≡ 0 = grind (arith, nat_tests) in
         let offset_is : offset ≡ 0 = grind (arith, nat_tests) in

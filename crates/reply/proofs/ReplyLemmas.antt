@@ -1,5 +1,5 @@
 -- Replies, by a best plan.
-use Rattle.std.proofs.Common.{◌≡◌, ℕ, ◌+◌, ◌≤◌, Bool, List, ◌++◌, length, refl, arith, ap₂, ◌∙◌, subst, Option, Result, Ok, Err, IfErr, OnOk, OnErr, IsPermutation}
+use Rattle.std.proofs.Common.{◌≡◌, ℕ, ◌+◌, ◌≤◌, Bool, List, ◌++◌, length, refl, arith, ap, ap₂, ◌∙◌, subst, Option, Result, Ok, Err, IfErr, OnOk, OnErr, IsPermutation}
 use Rattle.std.specs.Result.{IsErrAnd}
 use Rattle.std.specs.Io.KnownBytes.{Appends}
 use Rattle.pg_base.specs.Writing.{AppendsPrefix}
@@ -12,6 +12,7 @@ use Rattle.plan_tree.specs.Counts.{fetches, looks}
 use Rattle.plan_tree.specs.Least.{IsBestPlan}
 use Rattle.plan_tree.specs.Plans.{Plan}
 use Rattle.executor.specs.scan_exec_Coming.{Coming, coming}
+use Rattle.executor.specs.Opening.{opening_fetches}
 use Rattle.executor.specs.plan_laws_Closed.{is_scan}
 use Rattle.executor.specs.Reading.{Reading}
 use Rattle.explain.specs.Texts.{explained_text}
@@ -45,7 +46,7 @@ module _ (c : Contents) (q : Query) (p : Plan) (a b : Option (List ℕ)) (best :
     reply = explanation;
     answers = is_explanation;
     gained = gained;
-    fetched = record { within = omega arith; exact = refl };
+    fetched = record { above = omega arith; within = omega arith; exact = refl };
     looked = omega arith;
   }
 
@@ -72,10 +73,10 @@ module _ (w : World) (q : Query) (p : Plan) (best : IsBestPlan w.contents q p) (
   answering a b f f' l l' gained fetched looked = record { reply = answer_reply; answers = is_answer; gained = gained; fetched = fetched; looked = looked }
 
   -- what a call did that printed a text and the tuples of a reading, where these are the plan's
-  module _ (text : List ℕ) (r : Reading) (a b : Option (List ℕ)) (f f' l l' : ℕ) (of_text : text ≡ explained_text w.contents q p) (left : r.left ≡ tuples_of w q p) (owed : r.owed ≡ fetches w q p (no_rows q))
+  module _ (text : List ℕ) (r : Reading) (a b : Option (List ℕ)) (f f' l l' : ℕ) (of_text : text ≡ explained_text w.contents q p) (left : r.left ≡ tuples_of w q p) (owed : r.owed ≡ fetches w q p (no_rows q)) (opening : r.opening ≡ opening_fetches w q p)
       (allowed : r.allowed ≡ looks w q p (no_rows q)) (one : r.one ≡ is_scan p) (come : r.coming ≡ coming w q p (no_rows q)) where
     abbrev rise : Rise
-    rise = fetched_by (last_in q.window) (length r.left) r.owed r.one r.coming
+    rise = fetched_by (last_in q.window) (length r.left) r.owed r.opening r.one r.coming
 
     abbrev most_looks : ℕ
     most_looks = looked_by (last_in q.window) r.allowed (length (windowed q.window r.left))
@@ -85,8 +86,9 @@ module _ (w : World) (q : Query) (p : Plan) (best : IsBestPlan w.contents q p) (
 
     rise_is : rise ≡ answer_fetches w q p
     rise_is =
-        ap₂ (λ (ts : List Tuple) (n : ℕ). fetched_by (last_in q.window) (length ts) n r.one r.coming) left owed
-        ∙ ap₂ (λ (b : Bool) (cs : List Coming). fetched_by (last_in q.window) (length (tuples_of w q p)) (fetches w q p (no_rows q)) b cs) one come
+        ap₂ (λ (ts : List Tuple) (n : ℕ). fetched_by (last_in q.window) (length ts) n r.opening r.one r.coming) left owed
+        ∙ ap (λ (n : ℕ). fetched_by (last_in q.window) (length (tuples_of w q p)) (fetches w q p (no_rows q)) n r.one r.coming) opening
+        ∙ ap₂ (λ (b : Bool) (cs : List Coming). fetched_by (last_in q.window) (length (tuples_of w q p)) (fetches w q p (no_rows q)) (opening_fetches w q p) b cs) one come
 
     looks_are : most_looks ≡ answer_looks w q p
     looks_are = ap₂ (λ (n : ℕ) (ts : List Tuple). looked_by (last_in q.window) n (length (windowed q.window ts))) allowed left

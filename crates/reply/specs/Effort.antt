@@ -8,21 +8,25 @@ use Rattle.sql_query.specs.Worlds.{World}
 use Rattle.sql_query.specs.declared.window.Window.{Window}
 use Rattle.plan_tree.specs.Counts.{MOST_READS, fetches, looks}
 use Rattle.plan_tree.specs.Plans.{Plan}
+use Rattle.executor.specs.Opening.{opening_fetches}
 use Rattle.executor.specs.scan_exec_Coming.{Coming, coming, is_given, owed}
 use Rattle.executor.specs.plan_laws_Closed.{is_scan}
 use Rattle.reply.specs.Answers.{tuples_of}
 
--- by how much a count rises: at most by so much, and by so much exactly once a reply is whole, where that is given
+-- by how much a count rises: at most by so much; once a reply is whole at least by so much, and by so much exactly where that
+-- is given
 pub record Rise : Type 0 where
+  pub least : ℕ
   pub most : ℕ
   pub whole : Option ℕ
 
 -- by so much, and on the way by no more
 abbrev pub exactly : ℕ → Rise
-exactly n = record { most = n; whole = Some n }
+exactly n = record { least = n; most = n; whole = Some n }
 
--- a count rose by no more than that, and by just so much where that is given
+-- a count rose by no less and no more than that, and by just so much where that is given
 pub record HasRisen (rise : Rise) (old new : ℕ) : Type 0 where
+  pub above : old + rise.least ≤ new
   pub within : new ≤ old + rise.most
   pub exact : IfSome rise.whole (λ n. new ≡ old + n)
 
@@ -51,17 +55,18 @@ last_by offset (Some limit) = Some (offset + limit)
 abbrev pub last_in : Option Window → Option ℕ
 last_in w = last_by (offset_in w) (limit_in w)
 
--- the fetches for tuples up to the n-th, of so many that a plan gives for so many fetches in all. No tuple takes none; where
--- the plan gives fewer than n, it is drawn whole; one scan fetches the rows that it comes to up to and with the n-th that it
--- gives; joins and sorts fetch no more than in all
-abbrev pub fetched_to : ℕ → ℕ → ℕ → Bool → List Coming → Rise
-fetched_to n given all scan rows =
-    cond (nat_eq n 0) (exactly 0) (record { most = all; whole = cond (nat_lt given n) (Some all) (cond scan (Some (owed (through is_given n rows))) None) })
+-- the fetches for tuples up to the n-th, of so many that a plan gives for so many fetches in all, so many of which come before
+-- the first tuple. No tuple takes none; where the plan gives fewer than n, it is drawn whole; one scan fetches the rows that it
+-- comes to up to and with the n-th that it gives; joins and sorts fetch no less than what comes before the first tuple, which
+-- is all that a sort fetches, and no more than in all
+abbrev pub fetched_to : ℕ → ℕ → ℕ → ℕ → Bool → List Coming → Rise
+fetched_to n given all opening scan rows =
+    cond (nat_eq n 0) (exactly 0) (record { least = opening; most = all; whole = cond (nat_lt given n) (Some all) (cond scan (Some (owed (through is_given n rows))) None) })
 
 -- the fetches for tuples up to the last one that is drawn: without LIMIT the plan is drawn whole
-abbrev pub fetched_by : Option ℕ → ℕ → ℕ → Bool → List Coming → Rise
-fetched_by None given all scan rows = exactly all
-fetched_by (Some n) given all scan rows = fetched_to n given all scan rows
+abbrev pub fetched_by : Option ℕ → ℕ → ℕ → ℕ → Bool → List Coming → Rise
+fetched_by None given all opening scan rows = exactly all
+fetched_by (Some n) given all opening scan rows = fetched_to n given all opening scan rows
 
 -- the most looks, of so many that the plan takes in all, with 32 for each tuple shown; no tuple drawn takes none
 abbrev pub looked_by : Option ℕ → ℕ → ℕ → ℕ
@@ -71,7 +76,7 @@ looked_by (Some n) all shown = cond (nat_eq n 0) 0 (all + MOST_READS * shown)
 module _ (w : World) (q : Query) (p : Plan) where
   -- what the answer by a plan fetches
   abbrev pub answer_fetches : Rise
-  answer_fetches = fetched_by (last_in q.window) (length (tuples_of w q p)) (fetches w q p (no_rows q)) (is_scan p) (coming w q p (no_rows q))
+  answer_fetches = fetched_by (last_in q.window) (length (tuples_of w q p)) (fetches w q p (no_rows q)) (opening_fetches w q p) (is_scan p) (coming w q p (no_rows q))
 
   -- how often it looks at most at an index entry or a row that was found already
   abbrev pub answer_looks : ℕ

@@ -42,7 +42,7 @@ module _ {C F L : Type 0} (at : Setting C F L) where
 
   -- what is fetched from a state of the reading on for the tuples that are let through
   abbrev pub window_fetches : Reading → Rise
-  window_fetches r = fetched_by (last_in at.q.now.window) (length r.left) r.owed r.one r.coming
+  window_fetches r = fetched_by (last_in at.q.now.window) (length r.left) r.owed r.opening r.one r.coming
 
   -- the most looks from there on for these tuples
   abbrev pub window_looks : Reading → ℕ

@@ -9,7 +9,8 @@ ghost use Rattle.executor.specs.store_Kept.{IsStoreOf};
 ghost use Rattle.plan_tree.specs.Least.{IsBestPlan, HasNoPlan};
 ghost use Rattle.plan_tree.specs.Paths.{IsFinishedPath};
 ghost use Rattle.plan_tree.specs.Views.{path};
-ghost use Rattle.reply.specs.Effort.{HasRisen};
+ghost use Rattle.reply.specs.Drawing.{Draws, drawn_behind};
+ghost use Rattle.reply.specs.Effort.{HasRisen, limit_in, offset_in};
 ghost use Rattle.reply.specs.Putting.{HasWriteCause};
 ghost use Rattle.reply.specs.Replies.{HasBegun, HasBegunPrinting, HasPrinted, HasReplied, IsAnswerTo, IsExplanationOf, Leaves, LeavesPrinted, traces};
 ghost use Rattle.reply.specs.Settings.{IsSetting, result_shown, window_fetches, window_looks, world_of};
@@ -143,6 +144,9 @@ pub fn put_result<C: Counters, K: Sink>(
     ensures err { OnErr result (AppendsPrefix (K.held out.old) (K.held out.new)
         (text.now ++ result_shown at.now rows.old.left)) }
     ensures cause { HasWriteCause Broken.Write (K.faults out.old) (K.faults out.new) result }
+    ensures drawn { let window = at.now.q.now.window in OnOk result
+        (Draws (drawn_behind (offset_in window) (limit_in window) rows.old.left)
+        rows.old rows.new fetches.old fetches.new) }
     ensures fetches { OnOk result
         (HasRisen (window_fetches at.now rows.old) fetches.old fetches.new) }
     ensures fewer { fetches.new ≤ fetches.old + (window_fetches at.now rows.old).most }

@@ -21,7 +21,7 @@ use Rattle.statements.specs.Replies.{IsReply}
 -- a reply with nothing fetched and nothing looked at, whatever the counters stand at
 module _ (Is : Reply → Type 0) (quiet : (r : Reply) → Is r → r.fetched ≡ exactly 0) (held held' : Option (List ℕ)) (f l : ℕ) where
   none-fetched : (rise : Rise) → rise ≡ exactly 0 → HasRisen rise f f
-  none-fetched rise is = subst (λ (r : Rise). HasRisen r f f) (sym is) (record { within = omega arith; exact = omega arith })
+  none-fetched rise is = subst (λ (r : Rise). HasRisen r f f) (sym is) (record { above = omega arith; within = omega arith; exact = omega arith })
 
   moved : HasReplied Is (traces held 0 0) (traces held' 0 0) → HasReplied Is (traces held f l) (traces held' f l)
   moved is = record { reply = is.reply; answers = is.answers; gained = is.gained; fetched = none-fetched is.reply.fetched (quiet is.reply is.answers); looked = omega arith }

@@ -64,7 +64,7 @@ idle-defined w text at tokens looked short words one = (idle, record { read = on
 
 -- nothing is fetched
 none-fetched : (n : ℕ) → HasRisen (exactly 0) n n
-none-fetched n = record { within = omega arith; exact = omega arith }
+none-fetched n = record { above = omega arith; within = omega arith; exact = omega arith }
 
 -- a definition was carried out
 pub done-quietly : (w w' : World) (text : List ℕ) (at next : ℕ) (tokens : List Token) (held : Option (List ℕ)) (fetched looked looked' : ℕ) → AreWords text at tokens → IsDefined w w' text tokens next looked looked' →

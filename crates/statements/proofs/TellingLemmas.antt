@@ -42,7 +42,7 @@ module _ (w : World) (text : List ℕ) (tokens : List Token) where
 
     module _ (held held' : Option (List ℕ)) (f l : ℕ) where
       none-fetched : HasRisen (exactly 0) f f
-      none-fetched = record { within = omega arith; exact = omega arith }
+      none-fetched = record { above = omega arith; within = omega arith; exact = omega arith }
 
       -- the line was written
       pub telling-written : Appends held held' bytes → IsAnsweredOver w text tokens next (traces held f l) (traces held' f l)

@@ -4,7 +4,7 @@ use Rattle.sql_query.specs.Queries.{Query}
 use Rattle.plan_tree.specs.Views.{plan}
 use Rattle.scan_exec.specs.Coming.{Coming, rows_to_come}
 use Rattle.executor.specs.Numbers.{numbers}
-use Rattle.executor.proofs.DrawLemmas.{found_left, none_left, none_behind}
+use Rattle.executor.proofs.DrawLemmas.{found_left, none_left, none_behind, rises}
 use Rattle.executor.proofs.ScanLemmas.{scan_long, scan_step}
 use Rattle.executor.proofs.scanning.next_scanned.Goals as goal
 
@@ -23,3 +23,12 @@ returns-in_ok-push-in-Some-clause-len g c =
 
 pub returns-in-None-clause-none : goal.returns-in-None-clause-none
 returns-in-None-clause-none g c = (none_left c.args.scanning.now.rows c.in-None.ensures.row, c.in-None.ensures.rest ∙ none_behind c.args.scanning.now.rows c.in-None.ensures.row)
+
+pub returns-in_err-push-in-Some-clause-rise : goal.returns-in_err-push-in-Some-clause-rise
+returns-in_err-push-in-Some-clause-rise g c = rises c.args.scanning.now.rows c.next.new.self c.args.fetches.now c.next.new.fetches c.in-Some.ensures.rest c.in-Some.ensures.exact
+
+pub returns-in_ok-push-in-Some-clause-rise : goal.returns-in_ok-push-in-Some-clause-rise
+returns-in_ok-push-in-Some-clause-rise g c = rises c.args.scanning.now.rows c.next.new.self c.args.fetches.now c.next.new.fetches c.in-Some.ensures.rest c.in-Some.ensures.exact
+
+pub returns-in-None-clause-rise : goal.returns-in-None-clause-rise
+returns-in-None-clause-rise g c = rises c.args.scanning.now.rows c.next.new.self c.args.fetches.now c.next.new.fetches c.in-None.ensures.rest c.in-None.ensures.exact

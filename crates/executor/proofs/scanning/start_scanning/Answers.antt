@@ -1,6 +1,6 @@
 use Rattle.plan_tree.specs.Views.{plan}
 use Rattle.executor.specs.EState.{world_of}
-use Rattle.executor.proofs.ScanLemmas.{drawn_below, no_outer, started_coming, started_left, started_owed}
+use Rattle.executor.proofs.ScanLemmas.{drawn_below, no_outer, scan_opens, started_coming, started_left, started_owed}
 use Rattle.executor.proofs.scanning.start_scanning.Goals as goal
 
 pub start-requires-clause-outer : goal.start-requires-clause-outer
@@ -20,3 +20,6 @@ returns-clause-owed g c = started_owed (world_of c.args.at.now) c.args.at.now.q.
 
 pub returns-clause-coming : goal.returns-clause-coming
 returns-clause-coming g c = started_coming (world_of c.args.at.now) c.args.at.now.q.now (plan c.args.p.now) c.in_ok-rows.rows c.requires.scan c.requires.plan.whole c.in_ok-rows.ensures.coming
+
+pub returns-clause-opening : goal.returns-clause-opening
+returns-clause-opening g c = scan_opens (world_of c.args.at.now) c.args.at.now.q.now (plan c.args.p.now) c.requires.scan

@@ -34,7 +34,7 @@ returns-clause-ok g c =
     (c.plans_give_their_tuples.ensures.finished w c.args.at.now.q.now p c.requires.setting.store.world c.requires.setting.bound c.requires.best.finished)
     (c.finished_plans_are_ordered.ensures w c.args.at.now.q.now p c.requires.setting.store.world c.requires.setting.bound c.requires.best.finished)
     c.deref.result.now c.in_ok-rows.rows (g.K.Sink.held c.args.out.now) (g.K.Sink.held c.put_result.new.out) c.args.fetches.now c.put_result.new.fetches c.args.reads.now c.put_result.new.reads
-    (c.deref.ensures.value ∙ c.in_ok-text.ensures) c.in_ok-rows.ensures.left c.in_ok-rows.ensures.owed c.in_ok-rows.ensures.allowed c.in_ok-rows.ensures.one c.in_ok-rows.ensures.coming c.put_result.result c.put_result.ensures.ok c.put_result.ensures.fetches c.put_result.ensures.reads
+    (c.deref.ensures.value ∙ c.in_ok-text.ensures) c.in_ok-rows.ensures.left c.in_ok-rows.ensures.owed c.in_ok-rows.ensures.opening c.in_ok-rows.ensures.allowed c.in_ok-rows.ensures.one c.in_ok-rows.ensures.coming c.put_result.result c.put_result.ensures.ok c.put_result.ensures.fetches c.put_result.ensures.reads
 
 pub returns-clause-err : goal.returns-clause-err
 returns-clause-err g c =
@@ -44,4 +44,4 @@ returns-clause-err g c =
     (c.plans_give_their_tuples.ensures.finished w c.args.at.now.q.now p c.requires.setting.store.world c.requires.setting.bound c.requires.best.finished)
     (c.finished_plans_are_ordered.ensures w c.args.at.now.q.now p c.requires.setting.store.world c.requires.setting.bound c.requires.best.finished)
     c.deref.result.now c.in_ok-rows.rows (g.K.Sink.held c.args.out.now) (g.K.Sink.held c.put_result.new.out) c.args.fetches.now c.put_result.new.fetches c.args.reads.now c.put_result.new.reads
-    (c.deref.ensures.value ∙ c.in_ok-text.ensures) c.in_ok-rows.ensures.left c.in_ok-rows.ensures.owed c.in_ok-rows.ensures.allowed c.in_ok-rows.ensures.one c.in_ok-rows.ensures.coming c.put_result.result c.put_result.ensures.err c.put_result.ensures.fewer c.put_result.ensures.reads
+    (c.deref.ensures.value ∙ c.in_ok-text.ensures) c.in_ok-rows.ensures.left c.in_ok-rows.ensures.owed c.in_ok-rows.ensures.opening c.in_ok-rows.ensures.allowed c.in_ok-rows.ensures.one c.in_ok-rows.ensures.coming c.put_result.result c.put_result.ensures.err c.put_result.ensures.fewer c.put_result.ensures.reads

@@ -67,7 +67,7 @@ drawn-preserved g c =
           let P : ℕ → Type 0 = λ k. Draws k c.args.rows.now c.next.new.self c.args.fetches.now c.next.new.fetches in
           subst P (sym c.in_ok-count-in-Some.ensures)
           (draws_more c.drawn.count c.args.rows.now c.drawn.rows c.next.new.self c.args.fetches.now c.drawn.fetches c.next.new.fetches c.drawn.invariant.draws c.in_ok-next.ensures.one
-          c.in_ok-next.ensures.exact c.in_ok-next.ensures.pace_fetches (numbers c.items.result.now) left c.in_ok-next.ensures.pace)
+          c.in_ok-next.ensures.exact c.in_ok-next.ensures.first c.in_ok-next.ensures.pace_fetches (numbers c.items.result.now) left c.in_ok-next.ensures.pace)
           );
       within = within_more (limit_in q.window) c.drawn.count _ more c.in_ok-count-in-Some.ensures;
       quiet = search (rules, c.in_ok-put_row-in-Some.ensures.cause);

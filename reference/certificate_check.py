@@ -100,7 +100,7 @@ def entry_fault(space: Space, number: int, entry: Entry, path: Path | None) -> s
 
 
 def check(space: Space, texts: Texts, indexes: dict[str, Index], block: str) -> Verdict:
-    """The verdict on lines that are handed in."""
+    """The verdict on lines that are supplied."""
     reader = Reader(space, texts, indexes)
     try:
         entries, (is_sorted, number) = reader.certificate(block)

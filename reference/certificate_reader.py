@@ -156,7 +156,7 @@ class Reader:
         return Entry(s, param, node, int(found[4] or 0), int(found[5]), int(found[6]), self.keys(found[7], s))
 
     def certificate(self, block: str) -> tuple[list[Entry], tuple[bool, int]]:
-        """The entries and the best plan of a certificate. Where it is none, the number of the first line at fault is told."""
+        """The entries and the best plan of a certificate. Where it is none, the number of the first line in error is told."""
         lines = block.split("\n")
         rest, entries, best = lines.pop(), [], None
         begin = 1 if self.texts.has_window else 0

@@ -24,7 +24,7 @@ NO_PLAN = "54001"
 INVALID_PARAMETER = "22023"
 UNGROUPED = "42803"
 
-# What the line of a fault says; %s is the name, the operator or the limit at fault.
+# What the line of a fault says; %s is the name, the operator or the limit in error.
 TEXTS = {
     SYNTAX: "syntax error", NO_TABLE: "no table %s", NO_COLUMN: "no column %s", AMBIGUOUS: "ambiguous column %s",
     DUPLICATE_NAME: "duplicate name %s", DUPLICATE_COLUMN: "duplicate column %s", DUPLICATE_ALIAS: "duplicate alias %s",

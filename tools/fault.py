@@ -1,5 +1,5 @@
 #!/usr/bin/env python3
-"""Explains the fault of a script: its file, line and column, the line with a caret, the word at fault, and what to write instead.
+"""Explains the fault of a script: its file, line and column, the line with a caret, the word in error, and what to write instead.
 
 usage: tools/fault.py ERRORS SCRIPT..            the file ERRORS has what the program wrote on standard error
        tools/fault.py --place SCRIPT OFFSET      prints the line at a byte offset with a caret

@@ -5,7 +5,7 @@ usage: tools/hints.py --page     writes the table into the page
        tools/hints.py --check    fails if the table on the page is another
 
 A row has what PostgreSQL has, what to write, and the places of a fault by which it is known. A place is a regular expression over the
-statement's words in small letters, with a blank between any two, a quoted text as 'x', and a bar before the word at fault: `limit ¦ all`
+statement's words in small letters, with a blank between any two, a quoted text as 'x', and a bar before the word in error: `limit ¦ all`
 is a fault at ALL. The first row that fits gives the hint.
 """
 from __future__ import annotations

@@ -1,5 +1,5 @@
 #!/usr/bin/env python3
-"""Runs a program on random scripts of every statement, right and at fault, and has the reference judge its answers.
+"""Runs a program on random scripts of every statement, right and in error, and has the reference judge its answers.
 
 usage: tools/judge_scripts.py [--program PROGRAM] [--seed SEED] [--first NUMBER] [--kind KIND] [--jobs JOBS] [--keep FOLDER] [COUNT]
 

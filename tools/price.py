@@ -3,7 +3,7 @@
 
 usage: tools/price.py DATABASE QUERIES.sql [--schema NAME] [--plans]
 
-For each SELECT the server is asked for its plan in pgplan's plan space. The plan is handed in with USE PLAN, over tables without rows, and
+For each SELECT the server is asked for its plan in pgplan's plan space. The plan is supplied with USE PLAN, over tables without rows, and
 its numbers are corrected line by line as the replies say. LIMIT is left out, since USE PLAN has none. --plans prints both plans. Nothing
 runs on the server, but planning there evaluates immutable functions in the conditions of its indexes: ask as a role that may.
 """

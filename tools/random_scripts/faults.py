@@ -1,4 +1,4 @@
-"""Random statements at fault: of each kind many texts, one of which is chosen."""
+"""Random statements in error: of each kind many texts, one of which is chosen."""
 
 from __future__ import annotations
 
@@ -20,7 +20,7 @@ def literal_of(kind: str) -> str:
 # -- tables and data
 
 def broken_table(rng: Random, tables: Sequence[Table]) -> str:
-    """CREATE TABLE, or a name of a table, at fault."""
+    """CREATE TABLE, or a name of a table, in error."""
     table = rng.choice(tables)
     name = table.columns[0][0]
     many = ", ".join(f"c{n} int4" for n in range(rng.choice([33, 40])))
@@ -38,7 +38,7 @@ def broken_table(rng: Random, tables: Sequence[Table]) -> str:
 
 
 def records_at_fault(rng: Random, table: Table) -> list[str]:
-    """One record at fault among others."""
+    """One record in error among others."""
     number = rng.randrange(len(table.columns))
     _, kind, not_null = table.columns[number]
     fields = [field(rng, k, n, False) for _, k, n in table.columns]
@@ -61,7 +61,7 @@ def records_at_fault(rng: Random, table: Table) -> list[str]:
 
 
 def broken_copy(rng: Random, tables: Sequence[Table]) -> str:
-    """COPY at fault: its table, its text for NULL, its end, or its data."""
+    """COPY in error: its table, its text for NULL, its end, or its data."""
     table = rng.choice(tables)
     kind = rng.randrange(6)
     if kind == 0:
@@ -76,7 +76,7 @@ def broken_copy(rng: Random, tables: Sequence[Table]) -> str:
 # -- conditions and statistics
 
 def broken_condition(rng: Random, tables: Sequence[Table]) -> str:
-    """A SELECT with a condition at fault, alone or among others."""
+    """A SELECT with a condition in error, alone or among others."""
     table = rng.choice(tables)
     name, kind, _ = rng.choice(table.columns)
     test, whole = f"{name} IS NULL", literal_of(kind)
@@ -93,7 +93,7 @@ def broken_condition(rng: Random, tables: Sequence[Table]) -> str:
 
 
 def broken_membership(rng: Random, tables: Sequence[Table]) -> str:
-    """A SELECT whose IN or BETWEEN is at fault."""
+    """A SELECT whose IN or BETWEEN is in error."""
     table = rng.choice(tables)
     name, kind, _ = rng.choice(table.columns)
     whole = literal_of(kind)
@@ -112,7 +112,7 @@ def broken_membership(rng: Random, tables: Sequence[Table]) -> str:
 
 
 def broken_statistics(rng: Random, tables: Sequence[Table]) -> str:
-    """STATISTICS at fault: a name, a number, a literal, a share or a bound."""
+    """STATISTICS in error: a name, a number, a literal, a share or a bound."""
     table = rng.choice(tables)
     name, kind, _ = rng.choice(table.columns)
     past = rng.choice([0, 10**9 + 1, 2**64, 10**30])
@@ -139,7 +139,7 @@ def broken_statistics(rng: Random, tables: Sequence[Table]) -> str:
 # -- indexes, orders and windows
 
 def broken_index(rng: Random, tables: Sequence[Table]) -> str:
-    """CREATE INDEX at fault."""
+    """CREATE INDEX in error."""
     table = rng.choice(tables)
     names = [name for name, _, _ in table.columns]
     name, kind, _ = rng.choice(table.columns)
@@ -162,7 +162,7 @@ def broken_index(rng: Random, tables: Sequence[Table]) -> str:
 
 
 def broken_order(rng: Random, tables: Sequence[Table]) -> str:
-    """A SELECT whose ORDER BY, or EXPLAIN, is at fault."""
+    """A SELECT whose ORDER BY, or EXPLAIN, is in error."""
     table = rng.choice(tables)
     name, t = rng.choice(table.columns)[0], table.name
     return rng.choice([
@@ -177,7 +177,7 @@ def broken_order(rng: Random, tables: Sequence[Table]) -> str:
 
 
 def broken_window(rng: Random, tables: Sequence[Table]) -> str:
-    """A SELECT whose LIMIT or OFFSET is at fault, or stands behind another fault or before one."""
+    """A SELECT whose LIMIT or OFFSET is in error, or stands behind another fault or before one."""
     table = rng.choice(tables)
     name, past = rng.choice(table.columns)[0], rng.choice(PAST)
     many = " AND ".join([f"{name} IS NULL"] * 33)
@@ -191,7 +191,7 @@ def broken_window(rng: Random, tables: Sequence[Table]) -> str:
 # -- joins, groups and ADVISE
 
 def broken_joins(rng: Random, tables: Sequence[Table]) -> str:
-    """A SELECT of several relations at fault."""
+    """A SELECT of several relations in error."""
     relations = relations_of(rng, tables, 3)
     (a, s), (b, t), (c, _) = relations
     x, y = s.columns[0][0], t.columns[0][0]
@@ -217,7 +217,7 @@ def broken_joins(rng: Random, tables: Sequence[Table]) -> str:
 
 
 def broken_groups(rng: Random, tables: Sequence[Table]) -> str:
-    """A SELECT that groups, or SELECT DISTINCT, at fault."""
+    """A SELECT that groups, or SELECT DISTINCT, in error."""
     (a, s), (b, t) = relations_of(rng, tables, 2)
     x, y = rng.choice(s.columns)[0], rng.choice(t.columns)[0]
     one, two = f"{s.name} AS {a}", f"{t.name} AS {b}"
@@ -243,7 +243,7 @@ def broken_groups(rng: Random, tables: Sequence[Table]) -> str:
 
 
 def broken_advice(rng: Random, tables: Sequence[Table]) -> str:
-    """ADVISE at fault: its number, a candidate, a table's indexes, a SELECT, or its syntax."""
+    """ADVISE in error: its number, a candidate, a table's indexes, a SELECT, or its syntax."""
     table = rng.choice(tables)
     name, kind, _ = rng.choice(table.columns)
     t, on, asks = table.name, f"fresh ON {table.name} ({name})", f"(SELECT * FROM {table.name})"
@@ -271,7 +271,7 @@ def broken_advice(rng: Random, tables: Sequence[Table]) -> str:
 
 
 def broken_lines(rng: Random, tables: Sequence[Table]) -> str:
-    """CHECK or USE PLAN at fault, or with lines that are no such text."""
+    """CHECK or USE PLAN in error, or with lines that are no such text."""
     table = rng.choice(tables)
     begin = rng.choice(["CHECK", "USE PLAN"])
     select = f"SELECT * FROM {table.name}"
@@ -288,5 +288,5 @@ KINDS: list[Callable[[Random, Sequence[Table]], str]] = [
 
 
 def broken_statement(rng: Random, tables: Sequence[Table]) -> str:
-    """A statement at fault, of any kind."""
+    """A statement in error, of any kind."""
     return rng.choice(KINDS)(rng, tables)

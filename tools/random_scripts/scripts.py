@@ -16,7 +16,7 @@ from .certificates import MOST_ENTRIES, any_entries, kept
 from .certificates import edited as edited_certificate
 
 
-# Statements at fault are asked of tables with no more rows, where there are any, since some of them are no faults there.
+# Statements in error are asked of tables with no more rows, where there are any, since some of them are no faults there.
 MOST_ROWS = 100
 
 
@@ -110,7 +110,7 @@ def mixed(rng: Random) -> str:
 
 
 def faulty(rng: Random) -> str:
-    """A right script, then a statement that is at fault, mostly, then a query."""
+    """A right script, then a statement that is in error, mostly, then a query."""
     script = grown(rng, [0, 1, 3, 5, 8, 12])
     if not script.tables:
         script.add_table()
@@ -340,7 +340,7 @@ def written_plans(rng: Random) -> str:
 
 
 def certificates(rng: Random) -> str:
-    """Certificates that are handed in: those of kept paths, any entries that are right by themselves, and forged ones."""
+    """Certificates that are supplied: those of kept paths, any entries that are right by themselves, and forged ones."""
     out = dense_tables(rng, rng.choice([1, 2]), 3, 3)
     tables = sum(part.startswith("CREATE TABLE") for part in out)
     catalog = catalog_of("\n".join(out) + "\n")

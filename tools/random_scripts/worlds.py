@@ -29,7 +29,7 @@ def catalog_of(script: str) -> Catalog:
 
 
 def read_select(catalog: Catalog, select: str) -> Statement | None:
-    """A SELECT read against a catalogue, or None where it is at fault."""
+    """A SELECT read against a catalogue, or None where it is in error."""
     try:
         return read_statement(catalog, (select + ";").encode(), 0)
     except Fault:

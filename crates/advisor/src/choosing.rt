@@ -1,9 +1,9 @@
 //! The advice.
 
 ghost use Rattle.std.specs.Prelude.{◌≡◌, ◌<◌, ◌≤◌, ◌+◌, ◌^◌, ℕ, IfOk, MatchOption, Some};
-ghost use Rattle.advisor.specs.Advices.{IsBestBelow, chosen, priced};
+ghost use Rattle.advisor.specs.work.Advices.{IsBestBelow, chosen, priced};
 ghost use Rattle.advisor.specs.Choices.{HasNoAdvice, IsAdvice, preference as preference_of};
-ghost use Rattle.advisor.specs.Memos.{AreBelow, IsMemo};
+ghost use Rattle.advisor.specs.work.Memos.{AreBelow, IsMemo};
 
 use crate::pricer::Pricer;
 use crate::prices::{Prices, sum_prices};

@@ -1,7 +1,7 @@
 //! What queries cost.
 
 ghost use Rattle.std.specs.Prelude.{bit_and, ◌≡◌, ◌<◌, ◌≤◌, ℕ, Option, IfOk};
-ghost use Rattle.advisor.specs.Memos.{IsBelow, IsQuote};
+ghost use Rattle.advisor.specs.work.Memos.{IsBelow, IsQuote};
 
 use pg_base::{MOST_QUERIES, Memory};
 

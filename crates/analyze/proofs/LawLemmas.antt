@@ -26,7 +26,7 @@ use Rattle.opfamily.specs.Answers.{default_family_of}
 use Rattle.heap.specs.Stored.{IsLawfulData, IsRowOf, Stored, Values, IsColumnValue as MayHold}
 use Rattle.catalog.specs.Indexes.{no_column}
 use Rattle.catalog.specs.declared.limits.TheConstants.{MOST_BOUNDS, MOST_COMMON, ROWS_PER_PAGE, WHOLE_SHARE}
-use Rattle.catalog.specs.Analysed.{FitColumns, IsAllowedTable}
+use Rattle.catalog.specs.work.Analysed.{FitColumns, IsAllowedTable}
 use Rattle.catalog.specs.Statistics.{AreAllowed, AreValuesOf, Common, IsLawfulStatistics, IsValueOf, Statistics, is_below, is_count, is_equal, shares}
 use Rattle.catalog.proofs.StatisticsLemmas.{lawful-allowed}
 use Rattle.analyze.specs.Analysis.{Counted, ascending, bound_count, bound_in, bounds, commoner, commonest, counted, different, found, is_among, is_null, occurrences, others, rising, share, statistics_in, statistics_of, table_statistics, values_of}

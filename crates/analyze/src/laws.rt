@@ -3,7 +3,7 @@
 ghost use Rattle.std.specs.Prelude.{◌<◌, ℕ, length, slice_index_or};
 ghost use Rattle.heap.specs.Stored.{IsLawfulData, Stored};
 ghost use Rattle.catalog.specs.Indexes.{no_column};
-ghost use Rattle.catalog.specs.Analysed.{FitColumns, IsAllowedTable};
+ghost use Rattle.catalog.specs.work.Analysed.{FitColumns, IsAllowedTable};
 ghost use Rattle.catalog.specs.Statistics.{IsLawfulStatistics};
 ghost use Rattle.analyze.specs.Analysis.{statistics_of, table_statistics};
 

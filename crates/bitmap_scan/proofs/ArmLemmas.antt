@@ -13,14 +13,14 @@ use Rattle.pg_base.specs.declared.rel_set.RelSet.{RelSet}
 use Rattle.pg_expr.specs.Cond.{Cond}
 use Rattle.catalog.specs.Contents.{Contents}
 use Rattle.sql_query.specs.Queries.{Query}
-use Rattle.cost_rules.specs.Costs.{capped}
+use Rattle.cost_rules.specs.work.Costs.{capped}
 use Rattle.index_match.specs.Arms.{arms_of}
 use Rattle.plan_tree.specs.Plans.{BitTree, leaf, all_hold, some_arm}
 use Rattle.plan_tree.specs.Bitmaps.{HasArms, MatchesArm, by_clause, condition_at, element_of}
 use Rattle.plan_tree.specs.Costs.{part_of, parts_of_arms, together}
 use Rattle.plan_tree.proofs.ElementLemmas.{is-listed}
-use Rattle.bitmap_scan.specs.Arms.{AreServed, IsLeastMatch, lesser, part_for}
-use Rattle.bitmap_scan.specs.Chosen.{IsLeastTree}
+use Rattle.bitmap_scan.specs.work.Arms.{AreServed, IsLeastMatch, lesser, part_for}
+use Rattle.bitmap_scan.specs.work.Chosen.{IsLeastTree}
 use Rattle.bitmap_scan.proofs.LeastLemmas.{capped-cons, capped-together}
 
 above : (m n : ℕ) → nat_le m n ≡ false → n ≤ m

@@ -14,14 +14,14 @@ use Rattle.index_match.specs.Numbered.{Numbered, local, numbered}
 use Rattle.sql_query.specs.Queries.{Query}
 use Rattle.plan_tree.specs.Bitmaps.{ArePicked, none_left, picked, passed, AreElements, Element, by_clause, by_index, IsElement, MOST_ELEMENTS, candidates, table_of_relation}
 use Rattle.plan_tree.specs.Plans.{all_hold}
-use Rattle.plan_tree.specs.Views.{bits, element, trees_of}
+use Rattle.plan_tree.specs.work.Views.{bits, element, trees_of}
 use Rattle.plan_tree.specs.declared.bits.BitTrees.{BitTrees as Parts}
 use Rattle.plan_tree.specs.declared.bits.BitTree.TheViews.{And, the_lemmas}
 use Rattle.plan_tree.specs.declared.bits.BitTree.TheVariants.{rolls-And}
 use Rattle.plan_tree.specs.declared.bits.BitTree.TheFolds.{fold-roll-BitTree, fold_out-BitTree, fold-roll-BitTrees, fold_out-BitTrees}
 use Rattle.plan_tree.specs.declared.elements.Element.{Element as Chosen}
 use Rattle.plan_tree.proofs.FrontLemmas.{all-sources}
-use Rattle.bitmap_scan.specs.ElementTrees.{IsMade}
+use Rattle.bitmap_scan.specs.work.ElementTrees.{IsMade}
 use Rattle.eq_classes.specs.Parts.{is_local}
 
 -- what an AND of bitmap trees stands for

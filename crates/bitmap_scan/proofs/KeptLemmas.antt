@@ -10,23 +10,23 @@ use Rattle.std.proofs.Math.Bool.{and-false}
 use Rattle.pg_base.specs.Sets.{has}
 use Rattle.pg_base.specs.declared.numbers.RelNo.{RelNo}
 use Rattle.pg_base.specs.declared.rel_set.RelSet.{RelSet}
-use Rattle.pg_expr.specs.AtomSets.{contains}
+use Rattle.pg_expr.specs.work.AtomSets.{contains}
 use Rattle.pg_expr.specs.Columns.{names_rel}
 use Rattle.pg_expr.specs.Cond.{Cond}
 use Rattle.catalog.specs.Contents.{Contents}
 use Rattle.eq_classes.specs.Clauses.{Clause}
 use Rattle.path_cost.specs.Estimates.{conditions_from}
 use Rattle.sql_query.specs.Queries.{Query}
-use Rattle.cost_rules.specs.Costs.{capped}
+use Rattle.cost_rules.specs.work.Costs.{capped}
 use Rattle.plan_tree.specs.Plans.{BitTree, all_hold}
 use Rattle.plan_tree.specs.Bitmaps.{uses, some_uses}
 use Rattle.plan_tree.specs.Costs.{part_of, parts_of_all, together}
 use Rattle.plan_tree.specs.Space.{others_named}
-use Rattle.plan_tree.specs.Views.{element, trees_of}
+use Rattle.plan_tree.specs.work.Views.{element, trees_of}
 use Rattle.plan_tree.specs.declared.elements.Element.{Element}
 use Rattle.plan_tree.proofs.FrontLemmas.{all-sources}
-use Rattle.bitmap_scan.specs.Chosen.{combined, marked, IsLeastTree}
-use Rattle.bitmap_scan.specs.ElementTrees.{IsKept, named_in, tree_in}
+use Rattle.bitmap_scan.specs.work.Chosen.{combined, marked, IsLeastTree}
+use Rattle.bitmap_scan.specs.work.ElementTrees.{IsKept, named_in, tree_in}
 use Rattle.bitmap_scan.specs.declared.element_tree.ElementTree.{ElementTree}
 use Rattle.bitmap_scan.proofs.ArmLemmas.{zip-push}
 use Rattle.pg_base.proofs.ListLemmas.{sum-cons}

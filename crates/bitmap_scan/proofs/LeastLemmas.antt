@@ -9,14 +9,14 @@ use Rattle.pg_base.specs.declared.numbers.RelNo.{RelNo}
 use Rattle.pg_base.specs.declared.rel_set.RelSet.{RelSet}
 use Rattle.catalog.specs.Contents.{Contents}
 use Rattle.sql_query.specs.Queries.{Query}
-use Rattle.cost_rules.specs.Costs.{capped}
+use Rattle.cost_rules.specs.work.Costs.{capped}
 use Rattle.index_match.specs.Conditions.{index_conditions}
 use Rattle.index_match.specs.Numbered.{has_number}
 use Rattle.plan_tree.specs.Plans.{BitTree, leaf, all_hold, some_arm, BitTrees, no_trees, tree_and}
 use Rattle.plan_tree.specs.Bitmaps.{Element, by_index, by_clause, HasArms, HaveArms, IsTreeOver, element_of, elements_of, uses, some_uses}
 use Rattle.plan_tree.specs.Costs.{part_of, parts_of_all, together}
-use Rattle.plan_tree.specs.Views.{trees_of}
-use Rattle.bitmap_scan.specs.Chosen.{combined, IsLeastTree}
+use Rattle.plan_tree.specs.work.Views.{trees_of}
+use Rattle.bitmap_scan.specs.work.Chosen.{combined, IsLeastTree}
 use Rattle.bitmap_scan.proofs.MarkedLemmas.{choice-of-one, chosen-is-there, where-zip}
 use Rattle.pg_base.proofs.ListLemmas.{zip-length}
 use Rattle.pg_base.proofs.ListLemmas.{sum-cons}

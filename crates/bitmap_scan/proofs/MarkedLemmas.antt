@@ -4,7 +4,7 @@ use Rattle.std.specs.Prelude.{Contains}
 use Rattle.std.specs.List.{AllZip, items_where_true}
 use Rattle.std.proofs.Math.Nat.{pow-suc}
 use Rattle.std.proofs.lemmas.Nat.{pow_pos}
-use Rattle.bitmap_scan.specs.Chosen.{marked}
+use Rattle.bitmap_scan.specs.work.Chosen.{marked}
 
 -- the number whose digits are the first tests of a mask, so many of them
 digits : List Bool → ℕ → ℕ

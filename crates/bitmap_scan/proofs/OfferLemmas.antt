@@ -11,15 +11,16 @@ use Rattle.sql_query.specs.Queries.{Query}
 use Rattle.plan_tree.specs.Plans.{BitTree, bitmap}
 use Rattle.plan_tree.specs.Space.{IsPlanOf}
 use Rattle.plan_tree.specs.Least.{IsAdmissible}
-use Rattle.plan_tree.specs.Paths.{IsPathOf, Path}
-use Rattle.cost_rules.specs.Costs.{capped}
-use Rattle.plan_tree.specs.Costs.{HaveRows, cost, part_of}
+use Rattle.plan_tree.specs.work.Paths.{IsPathOf, Path}
+use Rattle.cost_rules.specs.work.Costs.{capped}
+use Rattle.plan_tree.specs.Costs.{cost, part_of}
+use Rattle.plan_tree.specs.work.Costs.{HaveRows}
 use Rattle.plan_tree.proofs.BoundLemmas.{startup-most}
 use Rattle.plan_tree.proofs.WindowLemmas.{startup-from}
-use Rattle.plan_tree.specs.Fronts.{AreOldOrOffers, ArePathsOf, HasDominating, StayDominated, is_bitmap}
+use Rattle.plan_tree.specs.work.Fronts.{AreOldOrOffers, ArePathsOf, HasDominating, StayDominated, is_bitmap}
 use Rattle.plan_tree.proofs.FrontLemmas.{old-stay}
-use Rattle.bitmap_scan.specs.Chosen.{combined, marked}
-use Rattle.bitmap_scan.specs.ElementTrees.{HasCheaper}
+use Rattle.bitmap_scan.specs.work.Chosen.{combined, marked}
+use Rattle.bitmap_scan.specs.work.ElementTrees.{HasCheaper}
 use Rattle.bitmap_scan.specs.declared.element_tree.Place.{Place}
 use Rattle.bitmap_scan.proofs.ScanLemmas.{MarkIsDominated, offers-trans}
 

@@ -11,7 +11,8 @@ use Rattle.pg_base.specs.declared.rel_set.RelSet.{RelSet}
 use Rattle.catalog.specs.Contents.{Contents}
 use Rattle.eq_classes.specs.Clauses.{Set, one}
 use Rattle.sql_query.specs.Queries.{Query, width}
-use Rattle.cost_rules.specs.Costs.{IsAtMost, capped, capped_pair, pair, row_cost}
+use Rattle.cost_rules.specs.Costs.{pair, row_cost}
+use Rattle.cost_rules.specs.work.Costs.{IsAtMost, capped, capped_pair}
 use Rattle.cost_rules.specs.Scans.{bitmap_scan_cost, heap_pages_of, page_in_order, run_cost}
 use Rattle.cost_rules.specs.declared.parameters.TheConstants.{MOST_COST}
 use Rattle.path_cost.specs.Costs.{bitmap_cost, local_operators, rows_after}
@@ -22,11 +23,11 @@ use Rattle.plan_tree.specs.Bitmaps.{Element, MOST_ELEMENTS, AreElements, IsEleme
 use Rattle.plan_tree.specs.Costs.{cost, part_of}
 use Rattle.plan_tree.specs.Space.{IsBitmapScan, IsPlanOf, IsSameSet, conditions_used, others_named}
 use Rattle.plan_tree.specs.Least.{Dominates, IsAdmissible}
-use Rattle.plan_tree.specs.Paths.{Path}
-use Rattle.plan_tree.specs.Fronts.{AreDominated, AreOldOrOffers, HasDominating, IsOffer, is_bitmap}
+use Rattle.plan_tree.specs.work.Paths.{Path}
+use Rattle.plan_tree.specs.work.Fronts.{AreDominated, AreOldOrOffers, HasDominating, IsOffer, is_bitmap}
 use Rattle.plan_tree.proofs.DominationLemmas.{dominates-trans}
 use Rattle.plan_tree.proofs.WindowLemmas.{startup-from}
-use Rattle.bitmap_scan.specs.Chosen.{AreChosen, IsLeastTree, combined, marked}
+use Rattle.bitmap_scan.specs.work.Chosen.{AreChosen, IsLeastTree, combined, marked}
 use Rattle.bitmap_scan.proofs.MarkedLemmas.{marked-all, where-zip}
 use Rattle.bitmap_scan.proofs.PickedLemmas.{picked-once}
 use Rattle.bitmap_scan.proofs.LeastLemmas.{IsUnder, chosen-over, chosen-under}

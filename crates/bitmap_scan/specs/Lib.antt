@@ -1,3 +1,1 @@
-pub mod Arms
-pub mod Chosen
-pub mod ElementTrees
+pub mod work

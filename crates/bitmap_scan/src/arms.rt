@@ -4,17 +4,17 @@ ghost use Rattle.std.specs.Prelude.{◌≡◌, ◌<◌, ◌≤◌, ◌++◌, ◌
 ghost use Rattle.pg_base.specs.declared.limits.TheConstants.{MOST_ATOMS};
 ghost use Rattle.pg_base.specs.declared.numbers.IndexNo.{IndexNo};
 ghost use Rattle.pg_expr.specs.Columns.{atom_count};
-ghost use Rattle.pg_expr.specs.View.{cond};
+ghost use Rattle.pg_expr.specs.work.View.{cond};
 ghost use Rattle.pg_expr.specs.declared.expr.Expr.{Expr};
 ghost use Rattle.catalog.specs.Contents.{Contents, IsTable};
-ghost use Rattle.cost_rules.specs.Costs.{capped};
-ghost use Rattle.path_cost.specs.Columns.{IsOver};
+ghost use Rattle.cost_rules.specs.work.Costs.{capped};
+ghost use Rattle.path_cost.specs.work.Columns.{IsOver};
 ghost use Rattle.sql_query.specs.Queries.{width};
 ghost use Rattle.plan_tree.specs.Bitmaps.{MatchesArm, table_of_relation};
 ghost use Rattle.plan_tree.specs.Costs.{together};
-ghost use Rattle.plan_tree.specs.Reads.{IsOverTables};
-ghost use Rattle.bitmap_scan.specs.Arms as arms;
-ghost use Rattle.bitmap_scan.specs.Arms.{IsLeastMatch, part_for, AreArmsMatched, AreArmsServed};
+ghost use Rattle.plan_tree.specs.work.Reads.{IsOverTables};
+ghost use Rattle.bitmap_scan.specs.work.Arms as arms;
+ghost use Rattle.bitmap_scan.specs.work.Arms.{IsLeastMatch, part_for, AreArmsMatched, AreArmsServed};
 
 use catalog::Catalog;
 use path_cost::{BITMAP_CHILD, MOST_COST};

@@ -3,13 +3,13 @@
 ghost use Rattle.std.specs.Prelude.{◌≡◌, ◌<◌, ◌≤◌, ◌↔◌, ℕ, IfOk, IsTrue, length, map};
 ghost use Rattle.std.specs.List.{list_any};
 ghost use Rattle.pg_base.specs.Sets.{has};
-ghost use Rattle.pg_expr.specs.AtomSets.{contains};
-ghost use Rattle.cost_rules.specs.Costs.{capped};
+ghost use Rattle.pg_expr.specs.work.AtomSets.{contains};
+ghost use Rattle.cost_rules.specs.work.Costs.{capped};
 ghost use Rattle.plan_tree.specs.Costs.{together};
-ghost use Rattle.plan_tree.specs.Views.{bits};
-ghost use Rattle.bitmap_scan.specs.Chosen.{combined, marked};
+ghost use Rattle.plan_tree.specs.work.Views.{bits};
+ghost use Rattle.bitmap_scan.specs.work.Chosen.{combined, marked};
 ghost use Rattle.plan_tree.specs.Space.{IsSameSet};
-ghost use Rattle.bitmap_scan.specs.ElementTrees.{named_in, tree_in, named_with, marked_names, is_clause_used};
+ghost use Rattle.bitmap_scan.specs.work.ElementTrees.{named_in, tree_in, named_with, marked_names, is_clause_used};
 
 use crate::arms::with_part;
 use crate::element_tree::{ElementTree, Marked};

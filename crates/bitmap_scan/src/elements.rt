@@ -2,15 +2,15 @@
 
 ghost use Rattle.std.specs.Prelude.{◌≡◌, ◌<◌, ℕ, All, IfOk, length, nat_eq};
 ghost use Rattle.pg_base.specs.Sets.{has};
-ghost use Rattle.pg_expr.specs.AtomSets.{contains};
+ghost use Rattle.pg_expr.specs.work.AtomSets.{contains};
 ghost use Rattle.catalog.specs.Contents.{IsIndex};
-ghost use Rattle.index_match.specs.Slots.{AreLocal};
+ghost use Rattle.index_match.specs.work.Slots.{AreLocal};
 ghost use Rattle.sql_query.specs.Queries.{width};
 ghost use Rattle.plan_tree.specs.Bitmaps.{IsMatchedOr, by_clause, by_index, condition_at};
-ghost use Rattle.plan_tree.specs.Reads.{IsOverTables};
-ghost use Rattle.plan_tree.specs.Views.{element};
-ghost use Rattle.bitmap_scan.specs.Chosen.{IsLeastTree};
-ghost use Rattle.bitmap_scan.specs.ElementTrees.{IsKept, IsMade, tree_in, HasLeastTree, HaveLeastTrees, AreKeptAt};
+ghost use Rattle.plan_tree.specs.work.Reads.{IsOverTables};
+ghost use Rattle.plan_tree.specs.work.Views.{element};
+ghost use Rattle.bitmap_scan.specs.work.Chosen.{IsLeastTree};
+ghost use Rattle.bitmap_scan.specs.work.ElementTrees.{IsKept, IsMade, tree_in, HasLeastTree, HaveLeastTrees, AreKeptAt};
 
 use crate::arms::least_matches;
 use crate::element_tree::{ElementTree, Place};

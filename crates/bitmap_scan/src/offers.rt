@@ -2,12 +2,12 @@
 
 ghost use Rattle.std.specs.Prelude.{◌≡◌, ◌<◌, ◌≤◌, ◌^◌, All, IsTrue, OnOk, map};
 ghost use Rattle.sql_query.specs.Queries.{width};
-ghost use Rattle.plan_tree.specs.Fronts.{ArePathsOf, StayDominated, is_bitmap};
-ghost use Rattle.plan_tree.specs.Reads.{IsOverTables};
-ghost use Rattle.plan_tree.specs.Views.{path};
-ghost use Rattle.bitmap_scan.specs.Chosen.{AreChosen};
-ghost use Rattle.bitmap_scan.specs.ElementTrees.{HasCheaper, IsCheaper, IsKept, lent_trees, marked_trees, AreBitmapOffers, AreLentTogether, AreMarkedTogether};
-ghost use Rattle.plan_tree.specs.Lists.{AreScanOffers, AreDominatedBy};
+ghost use Rattle.plan_tree.specs.work.Fronts.{ArePathsOf, StayDominated, is_bitmap};
+ghost use Rattle.plan_tree.specs.work.Reads.{IsOverTables};
+ghost use Rattle.plan_tree.specs.work.Views.{path};
+ghost use Rattle.bitmap_scan.specs.work.Chosen.{AreChosen};
+ghost use Rattle.bitmap_scan.specs.work.ElementTrees.{HasCheaper, IsCheaper, IsKept, lent_trees, marked_trees, AreBitmapOffers, AreLentTogether, AreMarkedTogether};
+ghost use Rattle.plan_tree.specs.work.Lists.{AreScanOffers, AreDominatedBy};
 
 use crate::chosen::{are_named, chosen_by, combine, parts_together, used_by};
 use crate::element_tree::{ElementTree, Marked, Place};

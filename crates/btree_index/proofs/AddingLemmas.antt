@@ -16,7 +16,7 @@ use Rattle.pg_value.proofs.StableSortLemmas.{in_order-up, in_order-alike, one-so
 use Rattle.opfamily.specs.declared.classes.IndexKey.{IndexKey}
 use Rattle.opfamily.specs.KeyOrder.{IndexEntry, entry_order}
 use Rattle.opfamily.proofs.KeyOrderLemmas.{entries_total}
-use Rattle.btree_index.specs.Adding.{AreAdded}
+use Rattle.btree_index.specs.work.Adding.{AreAdded}
 
 -- the rows of entries below a number
 abbrev pub Below : ℕ → IndexEntry → Type 0

@@ -3,9 +3,9 @@
 ghost use Rattle.std.specs.Prelude.{◌≡◌, ◌∷◌, ◌<◌, ◌≤◌, [], List, All, OnOk, OnErr};
 ghost use Rattle.pg_value.specs.Sorting.{IsInOrder};
 ghost use Rattle.opfamily.specs.KeyOrder.{IndexEntry as Held, entry_order};
-ghost use Rattle.btree_index.specs.Adding.{AreAdded};
-ghost use Rattle.btree_index.specs.Pages.{IsPaged, entries_of};
-ghost use Rattle.btree_index.specs.Tree.{entries_with};
+ghost use Rattle.btree_index.specs.work.Adding.{AreAdded};
+ghost use Rattle.btree_index.specs.work.Pages.{IsPaged, entries_of};
+ghost use Rattle.btree_index.specs.work.Tree.{entries_with};
 
 use crate::edges::Edge;
 use crate::entries::Entry;

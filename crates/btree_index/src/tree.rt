@@ -1,9 +1,9 @@
 //! The index itself.
 
 ghost use Rattle.std.specs.Prelude.{◌≡◌, ◌<◌, ◌∷◌, [], length, filter, All, IfOk, OnOk, OnErr};
-ghost use Rattle.opfamily.specs.KeyOrder.{AreKeyValues};
-ghost use Rattle.btree_index.specs.Bounds.{AreBounds, meets_all};
-ghost use Rattle.btree_index.specs.Tree.{IsEntryOf, IsLawfulTree, of_rows_below, with_entries, in_direction};
+ghost use Rattle.opfamily.specs.work.KeyOrder.{AreKeyValues};
+ghost use Rattle.btree_index.specs.work.Bounds.{AreBounds, meets_all};
+ghost use Rattle.btree_index.specs.work.Tree.{IsEntryOf, IsLawfulTree, of_rows_below, with_entries, in_direction};
 
 use crate::bounds::Probe;
 use crate::cursors::Cursor;
@@ -43,8 +43,8 @@ impl<L: Ledger> Drop for BTree<L> {
 
 impl<L: Ledger> Model for BTree<L> {
     ghost use Rattle.std.specs.Prelude.{◌<◌, All};
-    ghost use Rattle.btree_index.specs.Pages.{IsPaged, entries_of};
-    ghost use Rattle.btree_index.specs.Tree.{Tree, IsLawfulTree};
+    ghost use Rattle.btree_index.specs.work.Pages.{IsPaged, entries_of};
+    ghost use Rattle.btree_index.specs.work.Tree.{Tree, IsLawfulTree};
 
     ghost Value = { Tree };
 

@@ -7,9 +7,9 @@ use Rattle.std.proofs.lemmas.List.Elements.{All-push}
 use Rattle.opfamily.specs.pg_value_columns_Column.{Column}
 use Rattle.opfamily.specs.pg_value_value_SqlType.{SqlType}
 use Rattle.catalog.specs.declared.statistics.ColumnStats.{ColumnStats}
-use Rattle.catalog.specs.Analysed.{FitColumns, IsColumnRefusal}
+use Rattle.catalog.specs.work.Analysed.{FitColumns, IsColumnRefusal}
 use Rattle.catalog.specs.Contents.{IsKnown}
-use Rattle.catalog.specs.Known.{statistics}
+use Rattle.catalog.specs.work.Known.{statistics}
 use Rattle.catalog.specs.Statistics.{AreAllowed, AreValuesOf, IsFirstRefused, Statistics}
 use Rattle.catalog.proofs.StatisticsLemmas.{allowed-lawful}
 

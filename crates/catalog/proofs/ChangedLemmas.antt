@@ -2,7 +2,7 @@
 use Rattle.std.proofs.Common.{◌≡◌, ℕ, List, Some, map}
 use Rattle.std.specs.Option.{option_map}
 use Rattle.catalog.specs.Contents.{TableDef}
-use Rattle.catalog.specs.Known.{statistics}
+use Rattle.catalog.specs.work.Known.{statistics}
 use Rattle.catalog.specs.Statistics.{Statistics}
 use Rattle.catalog.specs.declared.table.Sizes.{Sizes}
 use Rattle.catalog.specs.declared.table.Table.{Table}

@@ -11,8 +11,8 @@ use Rattle.std.proofs.lemmas.Slice.Eq.{bytes_eq-Decides}
 use Rattle.indexmap.specs.IndexMap.{insert_entry}
 use Rattle.pg_base.specs.Names.{AreDistinct}
 use Rattle.catalog.specs.Contents.{IsLawful, NamedIndex}
-use Rattle.catalog.specs.Entries.{AreListed, IsSameTable, contents_of, index_of, named_index, table_def}
-use Rattle.catalog.specs.Keys.{key_names}
+use Rattle.catalog.specs.work.Entries.{AreListed, IsSameTable, contents_of, index_of, named_index, table_def}
+use Rattle.catalog.specs.work.Keys.{key_names}
 use Rattle.catalog.specs.declared.index_def.IndexDef.{IndexDef}
 use Rattle.catalog.specs.declared.table.Table.{Table}
 use Rattle.catalog.proofs.EntryLemmas.{entries-added}

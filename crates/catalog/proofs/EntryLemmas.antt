@@ -14,8 +14,8 @@ use Rattle.std.proofs.lemmas.Slice.Eq.{bytes_eq-Decides}
 use Rattle.indexmap.specs.IndexMap.{insert_entry, set_value_at}
 use Rattle.pg_base.specs.declared.numbers.TableNo.{TableNo}
 use Rattle.catalog.specs.Contents.{NamedIndex, TableDef, no_table, numbers_from}
-use Rattle.catalog.specs.Entries.{AreListed, statistics, table_def}
-use Rattle.catalog.specs.Keys.{key_names}
+use Rattle.catalog.specs.work.Entries.{AreListed, statistics, table_def}
+use Rattle.catalog.specs.work.Keys.{key_names}
 use Rattle.catalog.specs.declared.table.Table.{Table}
 
 module _ (name : List ℕ) (names : List (List ℕ)) where

@@ -8,7 +8,7 @@ use Rattle.std.proofs.lemmas.Slice.Eq.{bytes_eq-Decides}
 use Rattle.indexmap.specs.IndexSet.{insert_key}
 use Rattle.indexmap.proofs.CallerLemmas.{Contains-list_any}
 use Rattle.pg_base.specs.Names.{AreDistinct}
-use Rattle.catalog.specs.Keys.{key_names}
+use Rattle.catalog.specs.work.Keys.{key_names}
 
 -- a name that is not among different ones goes last
 pub distinct-push : {X : Type 0} (xs : List X) (x : X) → AllPairs (λ a b. a ≢ b) xs → (Contains xs x → ⊥) → AllPairs (λ a b. a ≢ b) (xs ++ x ∷ [])

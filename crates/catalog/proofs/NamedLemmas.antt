@@ -10,10 +10,10 @@ use Rattle.pg_base.specs.declared.numbers.IndexNo.{IndexNo}
 use Rattle.pg_base.specs.declared.numbers.TableNo.{TableNo}
 use Rattle.opfamily.specs.pg_value_columns_Column.{Column}
 use Rattle.catalog.specs.Contents.{Contents, TableDef, IsColumn, IsKnown, IsLawful, IsLawfulTable, IsTable, stats_at, table_at, index_names, new_table, no_index, no_table, table_names, unknown}
-use Rattle.catalog.specs.Entries.{statistics}
+use Rattle.catalog.specs.work.Entries.{statistics}
 use Rattle.catalog.specs.Indexes.{no_column, type_at}
 use Rattle.catalog.specs.Statistics.{IsLawfulStatistics, Statistics}
-use Rattle.catalog.specs.Tables.{HasIndexName, HasTableName, IsFree, IsFreeIndex}
+use Rattle.catalog.specs.work.Tables.{HasIndexName, HasTableName, IsFree, IsFreeIndex}
 use Rattle.catalog.specs.declared.statistics.ColumnStats.{ColumnStats}
 use Rattle.catalog.proofs.EntryLemmas.{name-among}
 use Rattle.pg_base.proofs.ListLemmas.{zip-length as as_many}

@@ -12,8 +12,8 @@ use Rattle.pg_base.specs.declared.limits.TheConstants.{MOST_INDEXES, MOST_TABLES
 use Rattle.pg_base.specs.declared.numbers.IndexNo.{IndexNo}
 use Rattle.pg_base.specs.declared.numbers.TableNo.{TableNo}
 use Rattle.catalog.specs.Contents.{Contents, NamedIndex, TableDef, IsIndexOf, IsLawful, IsLawfulTable, IsTable, index_names, indexes_of, no_index, no_table, numbers_from, table_at, table_names, with_definition, with_index, with_table}
-use Rattle.catalog.specs.Entries.{AreListed, contents_of, index_of, named_index, table_def}
-use Rattle.catalog.specs.Keys.{key_names}
+use Rattle.catalog.specs.work.Entries.{AreListed, contents_of, index_of, named_index, table_def}
+use Rattle.catalog.specs.work.Keys.{key_names}
 use Rattle.catalog.specs.Tables.{IsUnused}
 use Rattle.catalog.specs.declared.index_def.IndexDef.{IndexDef}
 use Rattle.catalog.specs.declared.table.Table.{Table}

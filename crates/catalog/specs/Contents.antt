@@ -1,5 +1,5 @@
 -- What a catalogue holds (PostgreSQL manual, chapter System Catalogs, pg_class, pg_attribute, pg_index and pg_statistic).
-use Rattle.std.specs.Prelude.{◌≡◌, ◌<◌, ◌≤◌, ◌+◌, ℕ, List, [], ◌∷◌, ◌++◌, cond, nat_eq, length, map, take, All, Contains, slice_index_or, slice_set, Option, Some, None}
+use Rattle.std.specs.Prelude.{◌≡◌, ◌<◌, ◌≤◌, ◌+◌, ℕ, List, [], ◌∷◌, ◌++◌, cond, nat_eq, length, map, All, Contains, slice_index_or, slice_set, Option, Some, None}
 use Rattle.std.specs.List.{AllZip}
 use Rattle.pg_base.specs.declared.limits.TheConstants.{MOST_COLUMNS, MOST_INDEXES, MOST_TABLES}
 use Rattle.pg_base.specs.declared.numbers.TableNo.{TableNo}
@@ -127,22 +127,6 @@ with_sizes c t rows pages = with_definition c t (record (table_at c t) { sizes =
 -- what is known of a column of a table, in place of what was
 abbrev pub with_stats : Contents → TableNo → ColNo → Statistics → Contents
 with_stats c t column s = with_definition c t (record (table_at c t) { stats = slice_set (table_at c t).stats column.0 (Some s) })
-
--- the number is that of the last table, or of the last index
-abbrev pub IsLastTable : Contents → TableNo → Type 0
-IsLastTable c t = t.0 + 1 ≡ length c.tables
-
--- the number is that of the index made last
-abbrev pub IsLastIndex : Contents → IndexNo → Type 0
-IsLastIndex c i = i.0 + 1 ≡ length c.indexes
-
--- the tables before one alone, or the indexes before one; all else as it is
-abbrev pub tables_before : Contents → TableNo → Contents
-tables_before c t = record c { tables = take t.0 c.tables }
-
--- the catalogue without an index and those that were made after it
-abbrev pub indexes_before : Contents → IndexNo → Contents
-indexes_before c i = record c { indexes = take i.0 c.indexes }
 
 -- what is known of a column, if anything is, is lawful
 abbrev pub IsKnown : Column → Option Statistics → Type 0

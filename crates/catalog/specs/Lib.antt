@@ -1,17 +1,16 @@
-pub mod Keys
 pub mod Contents
 pub mod Statistics
 pub mod Indexes
-pub mod Entries
 pub mod Tables
 pub mod Range
-pub mod TextTables
-pub mod Known
 pub mod Analysed
 pub mod Candidates
+pub mod work
 -- What callers name of the crates below.
 pub use Rattle.opfamily.specs.Answers as opfamily_Answers
+pub use Rattle.opfamily.specs.work.Answers as opfamily_work_Answers
 pub use Rattle.opfamily.specs.KeyOrder as opfamily_KeyOrder
+pub use Rattle.opfamily.specs.work.KeyOrder as opfamily_work_KeyOrder
 pub use Rattle.opfamily.specs.declared.classes.IndexKey as opfamily_classes_IndexKey
 pub use Rattle.opfamily.specs.declared.classes.Method as opfamily_classes_Method
 pub use Rattle.opfamily.specs.declared.classes.Method.TheVariants as opfamily_classes_Method_TheVariants

@@ -6,13 +6,12 @@ use Rattle.std.specs.Str.{bytes_eq}
 use Rattle.pg_base.specs.declared.limits.TheConstants.{MOST_INDEXES, MOST_TABLES}
 use Rattle.pg_base.specs.declared.numbers.TableNo.{TableNo}
 use Rattle.pg_base.specs.declared.numbers.ColNo.{ColNo}
-use Rattle.pg_base.specs.declared.numbers.IndexNo.{IndexNo}
 use Rattle.catalog.specs.declared.fault.CatalogFault.{CatalogFault}
 use Rattle.catalog.specs.declared.fault.CatalogFault.TheVariants.{NameTaken, ColumnTwice, TooMany, BadNumber, Memory}
 use Rattle.catalog.specs.declared.limits.TheConstants.{ROWS_PER_PAGE}
 use Rattle.pg_base.specs.Names.{AreDistinct, IsFirstRepeat}
-use Rattle.catalog.specs.Contents.{Contents, IsColumn, IsIndex, IsTable, all_names, index_name_at, index_names, indexes_of, name_at, table_at, table_names}
-use Rattle.catalog.specs.Indexes.{Index, AreDifferentColumns, FitsColumns, IsFirstTwice, columns_of, has_form}
+use Rattle.catalog.specs.Contents.{Contents, all_names, indexes_of, table_at, table_names}
+use Rattle.catalog.specs.Indexes.{Index, AreDifferentColumns, IsFirstTwice, columns_of, has_form}
 use Rattle.catalog.specs.declared.table.Sizes.{Sizes}
 use Rattle.catalog.specs.Statistics.{Statistics, IsFirstRefused, is_count}
 
@@ -24,37 +23,9 @@ table_named c name = option_map (λ n. record { 0 = n }) (position (bytes_eq nam
 abbrev pub column_named : Contents → TableNo → List ℕ → Option ColNo
 column_named c t name = option_map (λ n. record { 0 = n }) (position (bytes_eq name) (table_at c t).names)
 
--- the index of a name
-abbrev pub index_named : Contents → List ℕ → Option IndexNo
-index_named c name = option_map (λ n. record { 0 = n }) (position (bytes_eq name) (index_names c))
-
--- the name is one of no table
-abbrev pub IsFree : Contents → List ℕ → Type 0
-IsFree c name = ¬ Contains (table_names c) name
-
--- the name is one of no index
-abbrev pub IsFreeIndex : Contents → List ℕ → Type 0
-IsFreeIndex c name = ¬ Contains (index_names c) name
-
 -- the name is one of no table and of no index
 abbrev pub IsUnused : Contents → List ℕ → Type 0
 IsUnused c name = ¬ Contains (all_names c) name
-
--- the name is one of no column of the table
-abbrev pub IsFreeColumn : Contents → TableNo → List ℕ → Type 0
-IsFreeColumn c t name = ¬ Contains (table_at c t).names name
-
--- a table has the name
-abbrev pub HasTableName : Contents → List ℕ → TableNo → Type 0
-HasTableName c name t = IsTable c t × ((table_at c t).name ≡ name)
-
--- an index has the name
-abbrev pub HasIndexName : Contents → List ℕ → IndexNo → Type 0
-HasIndexName c name i = IsIndex c i × (index_name_at c i ≡ name)
-
--- a column of the table has the name
-abbrev pub HasColumnName : Contents → TableNo → List ℕ → ColNo → Type 0
-HasColumnName c t name column = IsColumn c t column × (name_at c t column ≡ name)
 
 -- a new table may be made: its name is unused, its columns' names differ, and fewer than 64 tables are there
 pub record IsAcceptable (c : Contents) (name : List ℕ) (names : List (List ℕ)) : Type 0 where
@@ -70,11 +41,6 @@ IsRefusal c name names (ColumnTwice place) = IsUnused c name × IsFirstRepeat na
 IsRefusal c name names TooMany = IsUnused c name × AreDistinct names × (length c.tables ≡ MOST_TABLES)
 IsRefusal c name names (BadNumber place) = ⊥
 IsRefusal c name names Memory = IsAcceptable c name names
-
--- a definition fits the catalogue: it is one of a table there, and fits its columns
-pub record Fits (c : Contents) (x : Index) : Type 0 where
-  pub table : IsTable c x.table
-  pub columns : FitsColumns (table_at c x.table).columns x
 
 -- a new index may be made: its name is unused, no column stands twice, its table has fewer than 8 indexes, and the method has its form
 pub record IsAcceptableIndex (c : Contents) (name : List ℕ) (x : Index) : Type 0 where

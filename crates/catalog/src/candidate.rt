@@ -22,9 +22,9 @@ impl Drop for Candidate {
 
 impl Model for Candidate {
     ghost use Rattle.std.specs.Coded.{codes};
-    ghost use Rattle.pg_expr.specs.CondCode.{cond_code};
+    ghost use Rattle.pg_expr.specs.work.CondCode.{cond_code};
     ghost use Rattle.catalog.specs.Contents.{NamedIndex};
-    ghost use Rattle.catalog.specs.Entries.{index_of};
+    ghost use Rattle.catalog.specs.work.Entries.{index_of};
 
     ghost Value = { NamedIndex };
 

@@ -2,10 +2,12 @@
 
 ghost use Rattle.std.specs.Prelude.{◌≡◌, ◌<◌, ◌+◌, ◌↔◌, ℕ, List, [], length, position, All, Contains, IfErr, IfOk, IsErrOf, IsTrue, OnErr, OnOk, MatchOption};
 ghost use Rattle.std.specs.Str.{bytes_eq};
-ghost use Rattle.catalog.specs.Contents.{IsColumn, IsLastTable, IsLawful, IsLawfulTable, IsTable, all_names, indexes_of, name_at, new_table, nothing, table_at, table_names, tables_before, with_table};
-ghost use Rattle.catalog.specs.Entries.{table_def};
+ghost use Rattle.catalog.specs.Contents.{IsColumn, IsLawful, IsLawfulTable, IsTable, all_names, indexes_of, name_at, new_table, nothing, table_at, table_names, with_table};
+ghost use Rattle.catalog.specs.work.Contents.{IsLastTable, tables_before};
+ghost use Rattle.catalog.specs.work.Entries.{table_def};
 ghost use Rattle.pg_base.specs.Names.{IsName};
-ghost use Rattle.catalog.specs.Tables.{HasColumnName, HasTableName, IsAcceptable, IsFree, IsFreeColumn, IsRefusal, column_named, table_named};
+ghost use Rattle.catalog.specs.Tables.{IsAcceptable, IsRefusal, column_named, table_named};
+ghost use Rattle.catalog.specs.work.Tables.{HasColumnName, HasTableName, IsFree, IsFreeColumn};
 
 use crate::entries::put;
 use crate::fault::CatalogFault;
@@ -39,9 +41,9 @@ impl Drop for Catalog {
 impl Model for Catalog {
     ghost use Rattle.std.specs.Coded.{codes};
     ghost use Rattle.std.specs.Prelude.{map};
-    ghost use Rattle.pg_expr.specs.CondCode.{cond_code};
+    ghost use Rattle.pg_expr.specs.work.CondCode.{cond_code};
     ghost use Rattle.catalog.specs.Contents.{Contents, IsLawful};
-    ghost use Rattle.catalog.specs.Entries.{AreListed, contents_of, named_index};
+    ghost use Rattle.catalog.specs.work.Entries.{AreListed, contents_of, named_index};
 
     ghost Value = { Contents };
 

@@ -4,9 +4,9 @@ ghost use Rattle.std.specs.Prelude.{◌≡◌, ◌≤◌, IfOk, length};
 ghost use Rattle.std.specs.List.{AllZip};
 ghost use Rattle.std.specs.Option.{option_map};
 ghost use Rattle.pg_base.specs.declared.limits.TheConstants.{MOST_INDEXES};
-ghost use Rattle.pg_expr.specs.View.{cond};
-ghost use Rattle.catalog.specs.Entries.{index_of};
-ghost use Rattle.catalog.specs.Known.{statistics};
+ghost use Rattle.pg_expr.specs.work.View.{cond};
+ghost use Rattle.catalog.specs.work.Entries.{index_of};
+ghost use Rattle.catalog.specs.work.Known.{statistics};
 
 use crate::contents::Catalog;
 use crate::index_def::IndexDef;
@@ -123,7 +123,7 @@ fn copy_numbers(numbers: &[IndexNo]) -> ArrayVec<IndexNo, MOST_INDEXES>
 }
 
 impl Copied for Table {
-    ghost use Rattle.catalog.specs.Entries.{IsSameTable};
+    ghost use Rattle.catalog.specs.work.Entries.{IsSameTable};
 
     ghost same = { IsSameTable };
 
@@ -141,7 +141,7 @@ impl Copied for Table {
 
 impl Copied for IndexDef {
     ghost use Rattle.std.specs.Prelude.{◌≡◌};
-    ghost use Rattle.catalog.specs.Entries.{index_of};
+    ghost use Rattle.catalog.specs.work.Entries.{index_of};
 
     ghost same = { λ a b. index_of b ≡ index_of a };
 
@@ -153,7 +153,7 @@ impl Copied for IndexDef {
 impl Copied for Option<ColumnStats> {
     ghost use Rattle.std.specs.Prelude.{◌≡◌};
     ghost use Rattle.std.specs.Option.{option_map};
-    ghost use Rattle.catalog.specs.Known.{statistics};
+    ghost use Rattle.catalog.specs.work.Known.{statistics};
 
     ghost same = { λ a b. option_map statistics b ≡ option_map statistics a };
 

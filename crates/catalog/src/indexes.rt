@@ -4,9 +4,11 @@ ghost use Rattle.std.specs.Prelude.{◌≡◌, ◌≤◌, length, position, IfEr
 ghost use Rattle.std.specs.Str.{bytes_eq};
 ghost use Rattle.pg_base.specs.declared.limits.TheConstants.{MOST_INDEXES};
 ghost use Rattle.pg_base.specs.Names.{IsName};
-ghost use Rattle.catalog.specs.Contents.{IsIndex, IsLastIndex, IsLawful, IsTable, index_at, index_name_at, index_names, indexes_before, indexes_of, with_index};
-ghost use Rattle.catalog.specs.Entries.{index_of};
-ghost use Rattle.catalog.specs.Tables.{Fits, HasIndexName, IsAcceptableIndex, IsFreeIndex, IsIndexRefusal, index_named};
+ghost use Rattle.catalog.specs.Contents.{IsIndex, IsLawful, IsTable, index_at, index_name_at, index_names, indexes_of, with_index};
+ghost use Rattle.catalog.specs.work.Contents.{IsLastIndex, indexes_before};
+ghost use Rattle.catalog.specs.work.Entries.{index_of};
+ghost use Rattle.catalog.specs.Tables.{IsAcceptableIndex, IsIndexRefusal};
+ghost use Rattle.catalog.specs.work.Tables.{Fits, HasIndexName, IsFreeIndex, index_named};
 
 use crate::contents::Catalog;
 use crate::entries::{put, take_last};

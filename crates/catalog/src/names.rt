@@ -24,7 +24,7 @@ impl Drop for Names {
 
 impl Model for Names {
     ghost use Rattle.std.specs.Prelude.{List, ℕ};
-    ghost use Rattle.catalog.specs.Keys.{key_names};
+    ghost use Rattle.catalog.specs.work.Keys.{key_names};
 
     ghost Value = { List (List ℕ) };
 

@@ -3,8 +3,9 @@
 ghost use Rattle.std.specs.Prelude.{◌≡◌, ◌<◌, ◌≤◌, ◌^◌, All, IfErr, List, MatchOption, OnErr, OnOk, Some, length, map, true, option_copied};
 ghost use Rattle.std.specs.Option.{option_map};
 ghost use Rattle.catalog.specs.Contents.{IsColumn, IsTable, stats_at, table_at, with_loaded, with_sizes, with_stats};
-ghost use Rattle.catalog.specs.Analysed.{FitColumns, IsAllowedTable, IsColumnRefusal, IsTableRefusal, with_analysis};
-ghost use Rattle.catalog.specs.Known.{statistics};
+ghost use Rattle.catalog.specs.Analysed.{with_analysis};
+ghost use Rattle.catalog.specs.work.Analysed.{FitColumns, IsAllowedTable, IsColumnRefusal, IsTableRefusal};
+ghost use Rattle.catalog.specs.work.Known.{statistics};
 ghost use Rattle.opfamily.specs.pg_value_columns_Column.{Column};
 ghost use Rattle.catalog.specs.Indexes.{type_at};
 ghost use Rattle.catalog.specs.Statistics.{AreAllowed, AreValuesOf, is_count as is_a_count};

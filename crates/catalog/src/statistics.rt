@@ -3,7 +3,7 @@
 ghost use Rattle.std.specs.Prelude.{◌≡◌, ◌<◌, ◌≤◌, ◌+◌, ◌^◌, All, MatchOption, length, map, slice_index_or, take};
 ghost use Rattle.std.specs.List.{list_any};
 ghost use Rattle.opfamily.specs.pg_value_value_SqlType.{SqlType};
-ghost use Rattle.catalog.specs.Known.{statistics};
+ghost use Rattle.catalog.specs.work.Known.{statistics};
 ghost use Rattle.catalog.specs.Statistics.{AreAllowed, AreValuesOf, Common, IsFirstRefused, IsValueOf, is_below, is_bound_refused, is_common_refused, is_count as is_a_count, is_equal, is_refused, is_share_refused, no_common, shares};
 
 use crate::limits::{MOST_BOUNDS, MOST_COMMON, MOST_NUMBER, WHOLE_SHARE};
@@ -49,7 +49,7 @@ impl Drop for ColumnList {
 
 impl Model for ColumnList {
     ghost use Rattle.std.specs.Prelude.{List, map};
-    ghost use Rattle.catalog.specs.Known.{statistics};
+    ghost use Rattle.catalog.specs.work.Known.{statistics};
     ghost use Rattle.catalog.specs.Statistics.{Statistics};
 
     ghost Value = { List Statistics };

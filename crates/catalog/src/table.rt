@@ -6,7 +6,7 @@ ghost use Rattle.std.specs.declared.alloc.Global.{Global};
 ghost use Rattle.pg_base.specs.Names.{AreDistinct};
 ghost use Rattle.pg_value.specs.declared.columns.TheConstants.{MOST_COLUMNS};
 ghost use Rattle.catalog.specs.Contents.{new_table, unknown as all_unknown};
-ghost use Rattle.catalog.specs.Entries.{statistics, table_def};
+ghost use Rattle.catalog.specs.work.Entries.{statistics, table_def};
 
 use crate::names::Names;
 use crate::statistics::ColumnStats;

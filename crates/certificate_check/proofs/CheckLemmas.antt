@@ -8,19 +8,20 @@ use Rattle.sql_query.specs.Tuples.{Tuple}
 use Rattle.sql_query.specs.WellBound.{IsWellBound}
 use Rattle.sql_query.specs.Worlds.{IsWorld, World}
 use Rattle.plan_laws.specs.Closed.{is_scan}
-use Rattle.plan_tree.specs.Costs.{HaveRows, price}
+use Rattle.plan_tree.specs.Costs.{price}
+use Rattle.plan_tree.specs.work.Costs.{HaveRows}
 use Rattle.plan_tree.specs.Least.{IsAdmissible}
 use Rattle.plan_tree.specs.Keys.{keys_of}
 use Rattle.plan_tree.specs.Plans.{Plan, seq, index, index_only, bitmap, sort, nest, merge, is_sort, set_of}
 use Rattle.plan_tree.specs.Run.{run}
-use Rattle.plan_tree.specs.Sorted.{AreSorted}
+use Rattle.plan_tree.specs.work.Sorted.{AreSorted}
 use Rattle.plan_tree.specs.Space.{IsBuilt, IsFinished}
 use Rattle.plan_check.specs.Certificates.{Certificate, Entry, finish_at}
 use Rattle.plan_check.specs.Tables.{IsDominated, IsLeastAmong, IsOver, IsPlanTable}
-use Rattle.plan_check.specs.Views.{entry}
+use Rattle.plan_check.specs.work.Views.{entry}
 use Rattle.plan_check.specs.declared.entry.Entry.{Entry as Entered}
 use Rattle.certificate_laws.proofs.TableLemmas.{best-least, dominated}
-use Rattle.plan_check.specs.Placing.{ArePlaced}
+use Rattle.plan_check.specs.work.Placing.{ArePlaced}
 use Rattle.plan_check.specs.Reasons.{AreCovered, AreUndominated, HasBest}
 use Rattle.plan_check.specs.Verdicts.{AreWhole, IsVerdict}
 use Rattle.plan_check.specs.declared.places.SetPlaces.{SetPlaces}
@@ -28,11 +29,11 @@ use Rattle.plan_check.specs.declared.verdict.Plain.{Plain}
 use Rattle.plan_check.specs.declared.verdict.Verdict.{Verdict}
 use Rattle.plan_check.specs.declared.verdict.Verdict.TheVariants as verdicts
 use Rattle.plan_check.proofs.ReasonLemmas.{table-from}
-use Rattle.certificate_check.specs.Checked.{AreSortedByKeys}
-use Rattle.scan_cover.specs.Trees.{AreAllBitmapsServed}
+use Rattle.certificate_check.specs.work.Checked.{AreSortedByKeys}
+use Rattle.scan_cover.specs.work.Trees.{AreAllBitmapsServed}
 use Rattle.scan_cover.specs.join_cover_Serving.{AreJoinsServed, IsOpen, IsServed}
 use Rattle.scan_cover.specs.join_cover_uncovered_Uncovered.{Uncovered}
-use Rattle.scan_cover.specs.Scanning.{ArePlainScansServed}
+use Rattle.scan_cover.specs.work.Scanning.{ArePlainScansServed}
 
 some-same : (x y : Plan) → Some x ≡ Some y → x ≡ y
 some-same x y e = cc

@@ -12,8 +12,10 @@ use Rattle.path_cost.specs.Estimates.{set_rows}
 use Rattle.sql_query.specs.Queries.{Query, all_of_query}
 use Rattle.sql_query.specs.declared.window.Window.{Window}
 use Rattle.pathkeys.specs.Keys.{Keys, order_keys}
-use Rattle.plan_tree.specs.Costs.{HaveRows, cost, price, query_rows}
-use Rattle.plan_tree.specs.Paths.{kept_cost, startup_kept}
+use Rattle.plan_tree.specs.Costs.{cost, price, query_rows}
+use Rattle.plan_tree.specs.work.Costs.{HaveRows}
+use Rattle.plan_tree.specs.Paths.{startup_kept}
+use Rattle.plan_tree.specs.work.Paths.{kept_cost}
 use Rattle.plan_tree.specs.Plans.{Plan, set_of, sort}
 use Rattle.plan_tree.specs.Space.{IsFinished, IsSameSet}
 use Rattle.plan_tree.proofs.BoundLemmas.{startup-most}
@@ -21,8 +23,8 @@ use Rattle.plan_tree.proofs.WindowLemmas.{kept-least}
 use Rattle.plan_check.specs.Certificates.{Certificate, Entry, Side, sorted_if}
 use Rattle.entry_check.specs.plan_check_Beating.{IsRight}
 use Rattle.entry_check.specs.plan_check_BeatingLemmas.{kept}
-use Rattle.entry_check.specs.Owning.{IsFinishedSide}
-use Rattle.certificate_check.specs.Pricing.{HasPrice, IsFinishedEntry, IsPriced}
+use Rattle.entry_check.specs.work.Owning.{IsFinishedSide}
+use Rattle.certificate_check.specs.work.Pricing.{HasPrice, IsFinishedEntry, IsPriced}
 use Rattle.cost_rules.specs.declared.prices.Price.{Price}
 
 pub kept-under : (w : Option Window) (n m total : ℕ) → n ≡ startup_kept w m → m ≤ total → n ≤ total

@@ -14,8 +14,8 @@ use Rattle.plan_check.specs.Certificates.{Certificate, Side, sorted_if, unfold_a
 use Rattle.plan_check.specs.Tables.{IsLeastAmong, IsOver}
 use Rattle.plan_check.proofs.UnfoldLemmas.{numbered}
 use Rattle.entry_check.specs.plan_check_Reasons.{HasBest, IsNotBest}
-use Rattle.certificate_check.specs.Pricing.{HasPrice, IsPriced, IsSomePrice}
-use Rattle.cost_rules.specs.Worse.{IsNoWorse}
+use Rattle.certificate_check.specs.work.Pricing.{HasPrice, IsPriced, IsSomePrice}
+use Rattle.cost_rules.specs.work.Worse.{IsNoWorse}
 use Rattle.cost_rules.specs.declared.prices.Price.{Price}
 use Rattle.cost_rules.proofs.WorseLemmas.{no-worse-trans}
 

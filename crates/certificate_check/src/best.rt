@@ -1,14 +1,15 @@
 //! The best plan of a certificate held against the others that are finished.
 
 ghost use Rattle.std.specs.Prelude.{◌≡◌, ◌≤◌};
-ghost use Rattle.cost_rules.specs.Costs.{IsEstimate};
+ghost use Rattle.cost_rules.specs.work.Costs.{IsEstimate};
 ghost use Rattle.plan_tree.specs.Costs.{query_rows};
-ghost use Rattle.plan_tree.specs.Reads.{IsOverTables};
-ghost use Rattle.plan_check.specs.Views.{certificate, side};
+ghost use Rattle.plan_tree.specs.work.Reads.{IsOverTables};
+ghost use Rattle.plan_check.specs.Views.{side};
+ghost use Rattle.plan_check.specs.work.Views.{certificate};
 ghost use Rattle.entry_check.specs.plan_check_Reasons.{AllRight, HasBest};
-ghost use Rattle.certificate_check.specs.Pricing.{IsLeastOnSide, IsLeastOnSides, IsSomePrice};
-ghost use Rattle.cost_rules.specs.Worse.{IsNoWorse};
-ghost use Rattle.certificate_check.specs.Checked.{JudgesBest};
+ghost use Rattle.certificate_check.specs.work.Pricing.{IsLeastOnSide, IsLeastOnSides, IsSomePrice};
+ghost use Rattle.cost_rules.specs.work.Worse.{IsNoWorse};
+ghost use Rattle.certificate_check.specs.work.Checked.{JudgesBest};
 
 use crate::sides::price_of_side;
 use catalog::Catalog;

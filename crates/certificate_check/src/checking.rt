@@ -2,14 +2,14 @@
 
 ghost use Rattle.std.specs.Prelude.{◌≡◌, ℕ, slice_get, suc};
 ghost use Rattle.pg_base.specs.Sets.{has};
-ghost use Rattle.plan_tree.specs.Reads.{IsOverTables};
-ghost use Rattle.scan_cover.specs.Limits.{HasFewAtoms};
-ghost use Rattle.plan_check.specs.Views.{certificate};
-ghost use Rattle.plan_check.specs.Placing.{ArePlaced};
+ghost use Rattle.plan_tree.specs.work.Reads.{IsOverTables};
+ghost use Rattle.scan_cover.specs.work.Limits.{HasFewAtoms};
+ghost use Rattle.plan_check.specs.work.Views.{certificate};
+ghost use Rattle.plan_check.specs.work.Placing.{ArePlaced};
 ghost use Rattle.plan_check.specs.Reasons.{AreUndominated};
 ghost use Rattle.plan_check.specs.Verdicts.{AreWhole, IsVerdict};
 ghost use Rattle.plan_check.specs.declared.verdict.Verdict.TheVariants as verdicts;
-ghost use Rattle.certificate_check.specs.Checked.{AreSortedByKeys, HasCheapest, LeavesNoneOut};
+ghost use Rattle.certificate_check.specs.work.Checked.{AreSortedByKeys, HasCheapest, LeavesNoneOut};
 
 use crate::cover::open_candidate;
 use crate::judge_best;

@@ -1,10 +1,10 @@
 //! Plans that an entry must dominate.
 
 ghost use Rattle.std.specs.Prelude.{MatchOption};
-ghost use Rattle.plan_tree.specs.Reads.{IsOverTables};
-ghost use Rattle.plan_check.specs.Views.{certificate};
-ghost use Rattle.scan_cover.specs.Limits.{HasFewAtoms};
-ghost use Rattle.plan_check.specs.Placing.{ArePlaced};
+ghost use Rattle.plan_tree.specs.work.Reads.{IsOverTables};
+ghost use Rattle.plan_check.specs.work.Views.{certificate};
+ghost use Rattle.scan_cover.specs.work.Limits.{HasFewAtoms};
+ghost use Rattle.plan_check.specs.work.Placing.{ArePlaced};
 ghost use Rattle.plan_check.specs.Reasons.{AllRight, AreCovered};
 ghost use Rattle.scan_cover.specs.join_cover_Serving.{IsOpen};
 

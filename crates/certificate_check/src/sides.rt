@@ -1,12 +1,13 @@
 //! Sides of a certificate that are finished plans, and their prices.
 
 ghost use Rattle.std.specs.Prelude.{◌≡◌, ◌≤◌, IfNone, IfSome};
-ghost use Rattle.cost_rules.specs.Costs.{IsEstimate};
+ghost use Rattle.cost_rules.specs.work.Costs.{IsEstimate};
 ghost use Rattle.plan_tree.specs.Costs.{query_rows};
-ghost use Rattle.plan_tree.specs.Reads.{IsOverTables};
-ghost use Rattle.plan_check.specs.Views.{certificate, entry, side};
+ghost use Rattle.plan_tree.specs.work.Reads.{IsOverTables};
+ghost use Rattle.plan_check.specs.Views.{side};
+ghost use Rattle.plan_check.specs.work.Views.{certificate, entry};
 ghost use Rattle.entry_check.specs.plan_check_Reasons.{AllRight};
-ghost use Rattle.certificate_check.specs.Pricing.{HasNoFinish, IsFinishedEntry, IsKeptCost, IsPriceOfEntry, IsPriced};
+ghost use Rattle.certificate_check.specs.work.Pricing.{HasNoFinish, IsFinishedEntry, IsKeptCost, IsPriceOfEntry, IsPriced};
 
 use catalog::Catalog;
 use cost_rules::{MOST_COST, Pair, Price, sort_total};

@@ -8,7 +8,7 @@ use Rattle.pg_value.specs.declared.operators.Family.{Family}
 use Rattle.pg_value.specs.declared.operators.Family.TheVariants as families
 use Rattle.pg_value.specs.declared.value.SqlType.{SqlType}
 use Rattle.pg_value.specs.declared.value.SqlType.TheVariants.{Int2, Int4, Int8, Text as TextType, Bool as BoolType}
-use Rattle.pg_value.specs.Order.{IsOfFamily}
+use Rattle.pg_value.specs.work.Order.{IsOfFamily}
 use Rattle.pg_value.specs.Types.{IsOfType}
 use Rattle.pg_expr.specs.declared.operand.ColRef.{ColRef}
 use Rattle.pg_expr.specs.Typed.{some_value}
@@ -24,7 +24,7 @@ use Rattle.eq_classes.proofs.WrittenLemmas.{in_typed}
 use Rattle.plan_laws.proofs.PartLemmas.{apart_at}
 use Rattle.sql_query.specs.Queries.{Query}
 use Rattle.sql_query.specs.WellBound.{IsWellBound, given_with}
-use Rattle.certificate_entries.specs.Keys.{IsClassIn, IsClassOf, is_abs}
+use Rattle.certificate_entries.specs.work.Keys.{IsClassIn, IsClassOf, is_abs}
 use Rattle.eq_classes.proofs.TypedLemmas.{is_some_value as sample-fits}
 
 -- the first class that passes a test

@@ -5,14 +5,14 @@ use Rattle.std.proofs.lemmas.List.{length-map, map-append}
 use Rattle.std.proofs.lemmas.List.Elements.{All-cons, All-head, All-push, All-tail}
 use Rattle.catalog.specs.Contents.{Contents}
 use Rattle.certificate_text.specs.explain_Texts.{with_commas}
-use Rattle.certificate_text.specs.Words.{stops}
+use Rattle.certificate_text.specs.work.Words.{stops}
 use Rattle.plan_tree.specs.Plans.{BitTree, BitTrees, no_trees, tree_and}
-use Rattle.plan_tree.specs.Views.{bits, bits_all, trees_of}
+use Rattle.plan_tree.specs.work.Views.{bits, bits_all, trees_of}
 use Rattle.plan_tree.specs.declared.bits.BitTree.{BitTree as Bits}
 use Rattle.sql_query.specs.Queries.{Query}
 use Rattle.certificate_text.specs.HasText.{HasElementText, HaveElementTexts, count}
 use Rattle.certificate_text.specs.Texts.{tree_text, tree_texts}
-use Rattle.certificate_entries.specs.Parts.{Reads, has_no_comma}
+use Rattle.certificate_entries.specs.work.Parts.{Reads, has_no_comma}
 use Rattle.pg_base.proofs.OptionLemmas.{none-some-too as none-some}
 use Rattle.pg_base.proofs.OptionLemmas.{some-same}
 use Rattle.certificate_entries.proofs.ListLemmas.{IsListLeft, all-taken, first-none, first-taken, next-none, next-taken}

@@ -19,11 +19,11 @@ use Rattle.eq_classes.specs.declared.classes.ClassNo.{ClassNo}
 use Rattle.eq_classes.proofs.ListLemmas.{IsIn, found_in, in_at}
 use Rattle.eq_classes.proofs.SoundLemmas.{in_member}
 use Rattle.certificate_text.specs.explain_Texts.{column_text, direction_text, family_text, key_text, member_text}
-use Rattle.certificate_text.specs.Words.{stops}
+use Rattle.certificate_text.specs.work.Words.{stops}
 use Rattle.certificate_text.specs.sort_rows_ColumnLemmas.{member_is}
 use Rattle.sql_query.specs.Queries.{Query, width}
 use Rattle.sql_query.specs.WellBound.{IsColumnOf, IsWellBound}
-use Rattle.certificate_entries.specs.Keys.{AreWords, HasKeyText, IsClassOf, IsNamed, ends_key, family_if, is_abs}
+use Rattle.certificate_entries.specs.work.Keys.{AreWords, HasKeyText, IsClassOf, IsNamed, ends_key, family_if, is_abs}
 use Rattle.certificate_entries.specs.declared.line_keys.KeyWords.{KeyWords}
 use Rattle.certificate_entries.proofs.NameLemmas.{one-place}
 use Rattle.pg_base.proofs.NameLemmas.{name-word}

@@ -7,10 +7,10 @@ use Rattle.catalog.specs.Contents.{Contents}
 use Rattle.eq_classes.specs.Clauses.{Set}
 use Rattle.eq_classes.specs.declared.classes.ClassNo.{ClassNo}
 use Rattle.certificate_text.specs.explain_Texts.{key_text, keys_text}
-use Rattle.pathkeys.specs.Finding.{class_numbers}
+use Rattle.pathkeys.specs.work.Finding.{class_numbers}
 use Rattle.sql_query.specs.Queries.{Query}
-use Rattle.certificate_entries.specs.Keys.{HasKeyText, ends_key}
-use Rattle.certificate_entries.specs.Parts.{has_no_comma}
+use Rattle.certificate_entries.specs.work.Keys.{HasKeyText, ends_key}
+use Rattle.certificate_entries.specs.work.Parts.{has_no_comma}
 use Rattle.certificate_entries.proofs.ListLemmas.{IsListLeft, all-taken, first-none, first-taken, next-none, next-taken}
 
 module _ (c : Contents) (q : Query) (set : Set) where

@@ -1,6 +1,6 @@
 -- The words of kinds are told apart by their first byte and their seventh.
 use Rattle.std.proofs.Common.{◌≡◌, ◌==◌, ℕ, cond, List, ◌++◌, get_or, refl, sym, ap, ◌∙◌}
-use Rattle.certificate_entries.specs.Kinds.{words}
+use Rattle.certificate_entries.specs.work.Kinds.{words}
 use Rattle.certificate_entries.specs.declared.kinds.Kind.{Kind}
 use Rattle.certificate_entries.specs.declared.kinds.Kind.TheVariants as kinds
 

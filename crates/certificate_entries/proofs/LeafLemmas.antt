@@ -6,9 +6,9 @@ use Rattle.std.proofs.lemmas.List.Elements.{All-cons, All-push}
 use Rattle.pg_base.specs.declared.numbers.IndexNo.{IndexNo}
 use Rattle.catalog.specs.Contents.{Contents, IsIndex}
 use Rattle.certificate_text.specs.explain_Texts.{with_commas}
-use Rattle.certificate_text.specs.Words.{stops}
+use Rattle.certificate_text.specs.work.Words.{stops}
 use Rattle.certificate_text.specs.Texts.{leaf_text}
-use Rattle.certificate_entries.specs.Parts.{Reads, has_no_comma}
+use Rattle.certificate_entries.specs.work.Parts.{Reads, has_no_comma}
 use Rattle.certificate_entries.proofs.ListLemmas.{IsListLeft, all-taken, first-none, first-taken, next-none, next-taken}
 
 module _ (c : Contents) where

@@ -5,7 +5,7 @@ use Rattle.std.proofs.lemmas.Bool.{true≢false}
 use Rattle.std.proofs.lemmas.List.{append_assoc, append-nil}
 use Rattle.std.proofs.lemmas.List.Elements.{All-head, All-tail}
 use Rattle.certificate_text.specs.explain_Texts.{with_commas}
-use Rattle.certificate_entries.specs.Parts.{has_no_comma}
+use Rattle.certificate_entries.specs.work.Parts.{has_no_comma}
 
 -- things with texts, the texts before which one ends, and what comes before a comma among them
 module _ {A : Type 0} (Has : A → Type 0) (text : A → List ℕ) (Ends : List ℕ → Type 0) (comma : (l : List ℕ) → Ends (44 ∷ l)) where

@@ -8,7 +8,7 @@ use Rattle.pg_base.specs.Names.{AreDistinct, is_in_name}
 use Rattle.pg_base.proofs.NameLemmas.{name-word}
 use Rattle.pg_base.specs.declared.numbers.IndexNo.{IndexNo}
 use Rattle.catalog.specs.Contents.{Contents, IsIndex, IsLawful, NamedIndex, index_name_at, index_names, no_index}
-use Rattle.catalog.specs.Tables.{HasIndexName, IsFreeIndex}
+use Rattle.catalog.specs.work.Tables.{HasIndexName, IsFreeIndex}
 
 -- of distinct names each has one place
 pub one-place : (xs : List (List ℕ)) → AreDistinct xs → (i j : ℕ) → i < length xs → j < length xs → (d : List ℕ) → get_or xs i d ≡ get_or xs j d → i ≡ j

@@ -12,18 +12,18 @@ use Rattle.pg_base.specs.declared.rel_set.RelSet.{RelSet}
 use Rattle.catalog.specs.Contents.{Contents}
 use Rattle.eq_classes.specs.Clauses.{Set}
 use Rattle.certificate_text.specs.explain_Texts.{keys_text}
-use Rattle.certificate_text.specs.Words.{stops}
+use Rattle.certificate_text.specs.work.Words.{stops}
 use Rattle.pathkeys.specs.Keys.{Keys}
 use Rattle.sql_query.specs.Queries.{Query}
 use Rattle.certificate_text.specs.plan_check_Certificates.{Node, Side, by_bitmap, by_index, by_index_only, by_merge, by_nest, by_seq}
-use Rattle.certificate_text.specs.plan_check_Views.{node}
+use Rattle.certificate_text.specs.plan_check_work_Views.{node}
 use Rattle.certificate_text.specs.plan_check_entry_Node.{Node as Noded}
 use Rattle.certificate_text.specs.HasText.{HasNodeText, IsEntryNumber}
 use Rattle.certificate_text.specs.Texts.{node_text, side_text, sides_text}
-use Rattle.certificate_entries.specs.Keys.{ends_key}
+use Rattle.certificate_entries.specs.work.Keys.{ends_key}
 use Rattle.certificate_entries.proofs.NumberLemmas.{number-begins}
 use Rattle.pg_base.proofs.OptionLemmas.{some-same}
-use Rattle.certificate_entries.specs.Kinds.{IsReadBack, behind_text, kind_of, words}
+use Rattle.certificate_entries.specs.work.Kinds.{IsReadBack, behind_text, kind_of, words}
 use Rattle.certificate_entries.specs.declared.kinds.Kind.{Kind}
 use Rattle.certificate_entries.specs.declared.kinds.Kind.TheVariants as kinds
 

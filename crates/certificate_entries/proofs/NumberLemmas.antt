@@ -12,7 +12,7 @@ use Rattle.pg_base.proofs.NameLemmas.{decimal-digits}
 use Rattle.certificate_text.specs.Texts.{side_text}
 use Rattle.certificate_text.specs.HasText.{IsEntryNumber}
 use Rattle.certificate_text.specs.plan_check_Certificates.{Side}
-use Rattle.certificate_entries.specs.Parts.{as_entry}
+use Rattle.certificate_entries.specs.work.Parts.{as_entry}
 use Rattle.pg_base.proofs.ListLemmas.{digit-first}
 
 below : (n : ℕ) → IsEntryNumber n → nat_lt n (2 ^ 32) ≡ true

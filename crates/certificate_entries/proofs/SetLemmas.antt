@@ -11,7 +11,7 @@ use Rattle.pg_base.specs.Sets.{has}
 use Rattle.pg_base.specs.declared.rel_set.RelSet.{RelSet}
 use Rattle.pg_base.proofs.SetLaws.{none-zero, same_set}
 use Rattle.catalog.specs.Contents.{Contents}
-use Rattle.certificate_text.specs.Words.{stops}
+use Rattle.certificate_text.specs.work.Words.{stops}
 use Rattle.sql_query.specs.Queries.{Query}
 use Rattle.sql_query.specs.WellBound.{IsWellBound}
 use Rattle.pg_base.specs.declared.numbers.TableNo.{TableNo}
@@ -20,7 +20,7 @@ use Rattle.certificate_text.specs.explain_Texts.{aliases_in, with_alias}
 use Rattle.certificate_text.specs.plan_tree_Plans.{is_empty}
 use Rattle.certificate_text.specs.Texts.{param_text, set_text, with_bare_commas}
 use Rattle.pg_base.proofs.NameLemmas.{name-word}
-use Rattle.certificate_entries.specs.Parts.{IsSet, IsWordRead, has_no_comma}
+use Rattle.certificate_entries.specs.work.Parts.{IsSet, IsWordRead, has_no_comma}
 use Rattle.pg_base.proofs.NumberLemmas.{below-next}
 
 abbrev pub AreWords : List (List ℕ) → Type 0

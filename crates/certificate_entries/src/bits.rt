@@ -2,10 +2,10 @@
 
 ghost use Rattle.std.specs.Prelude.{◌≤◌, IfOk, IfSome, length, option_map};
 ghost use Rattle.plan_tree.specs.Plans as trees;
-ghost use Rattle.plan_tree.specs.Views.{bits};
+ghost use Rattle.plan_tree.specs.work.Views.{bits};
 ghost use Rattle.sql_query.specs.WellBound.{IsWellBound};
 ghost use Rattle.certificate_text.specs.HasText.{HasBitsText};
-ghost use Rattle.certificate_entries.specs.Trees.{ReadsParts, ReadsTree};
+ghost use Rattle.certificate_entries.specs.work.Trees.{ReadsParts, ReadsTree};
 
 use crate::elements::{read_element, read_elements};
 use catalog::Catalog;

@@ -3,10 +3,10 @@
 ghost use Rattle.std.specs.Prelude.{◌≡◌, ◌≤◌, IfOk, IfSome, None, length, option_map, slice_get};
 ghost use Rattle.certificate_text.specs.explain_Texts.{conjunct_by};
 ghost use Rattle.plan_tree.specs.Plans as trees;
-ghost use Rattle.plan_tree.specs.Views.{bits};
+ghost use Rattle.plan_tree.specs.work.Views.{bits};
 ghost use Rattle.sql_query.specs.WellBound.{IsWellBound};
 ghost use Rattle.certificate_text.specs.HasText.{HasElementText};
-ghost use Rattle.certificate_entries.specs.Trees.{HaveElements, ReadsClause, ReadsElement, ReadsElements, ReadsLeaf, ReadsOr};
+ghost use Rattle.certificate_entries.specs.work.Trees.{HaveElements, ReadsClause, ReadsElement, ReadsElements, ReadsLeaf, ReadsOr};
 
 use crate::clauses::find_clause;
 use crate::{read_leaf, read_leaves};

@@ -8,9 +8,10 @@ ghost use Rattle.sql_query.specs.WellBound.{IsWellBound};
 ghost use Rattle.certificate_text.specs.plan_check_Views.{side};
 ghost use Rattle.certificate_text.specs.HasText.{HasKeysText, IsEntryNumber, IsSetOf};
 ghost use Rattle.certificate_text.specs.Texts as texts;
-ghost use Rattle.certificate_entries.specs.Parts.{HasSideText, Reads};
-ghost use Rattle.certificate_text.specs.Words.{PassesOver};
-ghost use Rattle.certificate_entries.specs.Sets.{ReadsSets};
+ghost use Rattle.certificate_text.specs.work.Texts as texts_work;
+ghost use Rattle.certificate_entries.specs.work.Parts.{HasSideText, Reads};
+ghost use Rattle.certificate_text.specs.work.Words.{PassesOver};
+ghost use Rattle.certificate_entries.specs.work.Sets.{ReadsSets};
 
 use crate::certificate_text::best_line;
 use crate::keys::read_key_list;

@@ -2,7 +2,7 @@
 
 ghost use Rattle.std.specs.Prelude.{◌≡◌, ◌≤◌, IfSome, length, option_map};
 ghost use Rattle.certificate_text.specs.HasText.{HasStartup, IsEntryNumber, IsWritable};
-ghost use Rattle.certificate_entries.specs.Figures.{AreFigures, ReadsBoth, ReadsCost, ReadsFigures, ReadsTotal, ReadsTwo};
+ghost use Rattle.certificate_entries.specs.work.Figures.{AreFigures, ReadsBoth, ReadsCost, ReadsFigures, ReadsTotal, ReadsTwo};
 
 use crate::read_entry_number;
 use certificate_text::LineCursor;

@@ -3,8 +3,8 @@
 ghost use Rattle.std.specs.Prelude.{◌≤◌, IfSome, length};
 ghost use Rattle.catalog.specs.Contents.{IsIndex, index_name_at};
 ghost use Rattle.certificate_text.specs.Texts.{leaf_text};
-ghost use Rattle.certificate_entries.specs.Parts.{Reads};
-ghost use Rattle.certificate_entries.specs.Scans.{ReadsScan};
+ghost use Rattle.certificate_entries.specs.work.Parts.{Reads};
+ghost use Rattle.certificate_entries.specs.work.Scans.{ReadsScan};
 
 use catalog::Catalog;
 use certificate_text::LineCursor;

@@ -3,7 +3,7 @@
 ghost use Rattle.std.specs.Prelude.{◌≤◌, IfOk, IfSome, length};
 ghost use Rattle.pg_base.specs.Sets.{has};
 ghost use Rattle.sql_query.specs.WellBound.{IsWellBound};
-ghost use Rattle.certificate_entries.specs.Keys.{HaveKeyTexts, ReadsKeys};
+ghost use Rattle.certificate_entries.specs.work.Keys.{HaveKeyTexts, ReadsKeys};
 
 use crate::line_keys::read_key;
 use catalog::Catalog;

@@ -2,10 +2,10 @@
 
 ghost use Rattle.std.specs.Prelude.{◌≡◌, ◌≢◌, ◌<◌, ◌↔◌, ℕ, IfOk, IfSome, IsTrue, codes, false, length, true};
 ghost use Rattle.pg_base.specs.Sets.{has};
-ghost use Rattle.pathkeys.specs.Finding.{class_numbers};
+ghost use Rattle.pathkeys.specs.work.Finding.{class_numbers};
 ghost use Rattle.pathkeys.specs.Keys.{AreDifferent};
 ghost use Rattle.sql_query.specs.WellBound.{IsWellBound};
-ghost use Rattle.certificate_entries.specs.Keys.{HasSomeKeys, ReadsKeyList, nth_key};
+ghost use Rattle.certificate_entries.specs.work.Keys.{HasSomeKeys, ReadsKeyList, nth_key};
 
 use crate::read_keys;
 use catalog::Catalog;

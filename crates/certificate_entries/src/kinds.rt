@@ -1,6 +1,6 @@
 //! What entries are, by the words that they begin with.
 
-ghost use Rattle.certificate_entries.specs.Kinds.{ReadsKind};
+ghost use Rattle.certificate_entries.specs.work.Kinds.{ReadsKind};
 
 use certificate_text::LineCursor;
 

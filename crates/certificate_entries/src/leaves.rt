@@ -2,7 +2,7 @@
 
 ghost use Rattle.std.specs.Prelude.{◌≤◌, All, IfOk, IfSome, length};
 ghost use Rattle.catalog.specs.Contents.{IsIndex};
-ghost use Rattle.certificate_entries.specs.Trees.{ReadsLeaves};
+ghost use Rattle.certificate_entries.specs.work.Trees.{ReadsLeaves};
 
 use crate::indexes::read_leaf;
 use catalog::Catalog;

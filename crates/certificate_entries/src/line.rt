@@ -1,7 +1,7 @@
 //! What one line of a certificate text says.
 
 ghost use Rattle.sql_query.specs.WellBound.{IsWellBound};
-ghost use Rattle.certificate_entries.specs.Reading.{IsRead};
+ghost use Rattle.certificate_entries.specs.work.Reading.{IsRead};
 
 use catalog::Catalog;
 use certificate_text::plan_check::{Entry, Side};
@@ -29,7 +29,7 @@ pub enum LineFault {
 /// A reader of one line.
 pub trait ReadLine {
     ghost use Rattle.sql_query.specs.WellBound.{IsWellBound};
-    ghost use Rattle.certificate_entries.specs.Reading.{IsRead};
+    ghost use Rattle.certificate_entries.specs.work.Reading.{IsRead};
 
     /// What a line says, which is given without its LF: the entry of this number or a best plan.
     fn read(

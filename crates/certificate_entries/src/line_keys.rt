@@ -5,7 +5,7 @@ ghost use Rattle.pg_base.specs.Sets.{has};
 ghost use Rattle.pg_expr.specs.declared.operand.ColRef as columns;
 ghost use Rattle.certificate_text.specs.explain_Texts.{direction_text};
 ghost use Rattle.sql_query.specs.WellBound.{IsWellBound};
-ghost use Rattle.certificate_entries.specs.Keys.{FindsClass, FindsColumn, FindsRelation, HasAlias, HasKeyText, IsClassIn, IsClassOf, IsNamed, ReadsKey, ReadsKeyWords};
+ghost use Rattle.certificate_entries.specs.work.Keys.{FindsClass, FindsColumn, FindsRelation, HasAlias, HasKeyText, IsClassIn, IsClassOf, IsNamed, ReadsKey, ReadsKeyWords};
 
 use catalog::Catalog;
 use certificate_text::LineCursor;

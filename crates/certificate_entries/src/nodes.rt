@@ -5,7 +5,7 @@ ghost use Rattle.pg_base.specs.Sets.{has};
 ghost use Rattle.sql_query.specs.WellBound.{IsWellBound};
 ghost use Rattle.certificate_text.specs.plan_check_Certificates as certs;
 ghost use Rattle.certificate_text.specs.HasText.{HasKeysText, IsEntryNumber};
-ghost use Rattle.certificate_entries.specs.Nodes.{HasTextAnywhere, HasTextInCatalog, HasTextInQuery, HasTextInSet, ReadsBehind, ReadsBitmap, ReadsMerge, ReadsNest, ReadsNode, ReadsScanNode, ReadsSides};
+ghost use Rattle.certificate_entries.specs.work.Nodes.{HasTextAnywhere, HasTextInCatalog, HasTextInQuery, HasTextInSet, ReadsBehind, ReadsBitmap, ReadsMerge, ReadsNest, ReadsNode, ReadsScanNode, ReadsSides};
 
 use crate::bits::read_bits;
 use crate::figures::read_two;

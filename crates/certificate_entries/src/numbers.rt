@@ -5,7 +5,7 @@ ghost use Rattle.std.specs.Fmt.{decimal};
 ghost use Rattle.certificate_text.specs.plan_check_Views.{side};
 ghost use Rattle.certificate_text.specs.HasText.{IsEntryNumber};
 ghost use Rattle.certificate_text.specs.Texts.{side_text};
-ghost use Rattle.certificate_entries.specs.Parts.{HasSideText, Reads, as_entry};
+ghost use Rattle.certificate_entries.specs.work.Parts.{HasSideText, Reads, as_entry};
 
 use certificate_text::LineCursor;
 use certificate_text::plan_check::Side;

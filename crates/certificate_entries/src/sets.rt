@@ -7,8 +7,8 @@ ghost use Rattle.sql_query.specs.Queries.{width};
 ghost use Rattle.sql_query.specs.WellBound.{IsWellBound};
 ghost use Rattle.certificate_text.specs.HasText.{IsSetOf};
 ghost use Rattle.certificate_text.specs.Texts.{set_text};
-ghost use Rattle.certificate_entries.specs.Parts.{IsSet, Reads};
-ghost use Rattle.certificate_entries.specs.Sets.{ReadsAliases, ReadsParam, ReadsWord};
+ghost use Rattle.certificate_entries.specs.work.Parts.{IsSet, Reads};
+ghost use Rattle.certificate_entries.specs.work.Sets.{ReadsAliases, ReadsParam, ReadsWord};
 
 use catalog::Catalog;
 use certificate_text::LineCursor;

@@ -28,7 +28,7 @@ use Rattle.certificate_text.specs.plan_check_Limit.{MOST_ENTRIES}
 use Rattle.certificate_text.specs.plan_check_Tables.{IsEntryAt, IsStartup, IsPlanTable}
 use Rattle.certificate_text.specs.plan_check_UnfoldLemmas.{goes-on}
 use Rattle.certificate_text.specs.HasText.{HasEntryLine, HasKeysText, HasStartup, HasText, IsSetOf}
-use Rattle.certificate_laws.specs.Arms.{HasArmsInOrs}
+use Rattle.certificate_laws.specs.work.Arms.{HasArmsInOrs}
 use Rattle.certificate_laws.proofs.KeysLemmas.{keys-wider, plan-text}
 use Rattle.certificate_laws.proofs.NodeLemmas.{made-of, node-text, side-few}
 

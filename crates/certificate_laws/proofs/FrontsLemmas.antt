@@ -6,20 +6,20 @@ use Rattle.catalog.specs.Contents.{Contents}
 use Rattle.cost_rules.specs.declared.parameters.TheConstants.{MOST_COST}
 use Rattle.pg_base.specs.declared.rel_set.RelSet.{RelSet}
 use Rattle.sql_query.specs.Queries.{Query}
-use Rattle.plan_tree.specs.Costs.{HaveRows}
+use Rattle.plan_tree.specs.work.Costs.{HaveRows}
 use Rattle.plan_tree.specs.Least.{Dominates, IsAdmissible}
-use Rattle.plan_tree.specs.Paths.{Path, is_at_most}
+use Rattle.plan_tree.specs.work.Paths.{Path, is_at_most}
 use Rattle.plan_tree.specs.Plans.{Plan}
 use Rattle.plan_tree.proofs.AtMostLemmas.{dominates-at-most}
 use Rattle.plan_laws.specs.Closed.{IsUndercut}
-use Rattle.plan_laws.specs.Useful.{HasEnough, IsBelow}
+use Rattle.plan_laws.specs.work.Useful.{HasEnough, IsBelow}
 use Rattle.plan_laws.proofs.UsefulLemmas.{price-total, suffices-dominates}
 use Rattle.planner.specs.join_search_Joins.{AreUndominated, IsKept, IsPathAt}
 use Rattle.planner.specs.join_search_Tables.{Fronts}
 use Rattle.planner.proofs.SearchLemmas.{closed}
-use Rattle.certificate_laws.specs.Kept.{AreKept, IsKeptPath, IsPlanOfSome}
+use Rattle.certificate_laws.specs.work.Kept.{AreKept, IsKeptPath, IsPlanOfSome}
 use Rattle.certificate_laws.proofs.KeptLemmas.{sides-wider}
-use Rattle.certificate_laws.specs.Searched.{AreOfFronts, IsSearched, all_asked}
+use Rattle.certificate_laws.specs.work.Searched.{AreOfFronts, IsSearched, all_asked}
 
 module _ (c : Contents) (q : Query) (fronts : Fronts) (searched : IsSearched c q fronts) where
   pub at-place : (s p : RelSet) (x : Path) → Contains (fronts s p) x → IsPathAt c q s p x

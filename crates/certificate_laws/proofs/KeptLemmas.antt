@@ -12,13 +12,14 @@ use Rattle.sql_query.specs.Queries.{Query, width}
 use Rattle.sql_query.specs.declared.window.Window.{Window}
 use Rattle.plan_tree.specs.Plans.{Plan, seq, index, index_only, bitmap, sort, nest, merge}
 use Rattle.plan_tree.specs.Costs.{cost, price}
-use Rattle.plan_tree.specs.Paths.{Path, startup_kept}
+use Rattle.plan_tree.specs.Paths.{startup_kept}
+use Rattle.plan_tree.specs.work.Paths.{Path}
 use Rattle.plan_tree.specs.Space.{IsFinished, IsPlanOf}
 use Rattle.plan_tree.specs.Least.{IsAdmissible, Dominates}
 use Rattle.plan_check.specs.plan_laws_Closed.{AreKeptSides, IsKeptSide, IsUndercut}
 use Rattle.plan_check.specs.Certificates.{Certificate, Entry, finish_at, plan_at, unfold_at, unfolded}
 use Rattle.plan_check.specs.Tables.{IsDominated, IsEntryAt, IsEntryPlan, IsStartup, IsPlanTable}
-use Rattle.certificate_laws.specs.Kept.{AreEntriesOf, AreKept, AreOf, IsKeptPath, IsPlanOfSome}
+use Rattle.certificate_laws.specs.work.Kept.{AreEntriesOf, AreKept, AreOf, IsKeptPath, IsPlanOfSome}
 
 abbrev tree_of : Path → Option Plan
 tree_of x = Some x.tree

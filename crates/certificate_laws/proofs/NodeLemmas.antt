@@ -25,7 +25,7 @@ use Rattle.certificate_text.specs.plan_check_Certificates.{Certificate, Entry, N
 use Rattle.certificate_text.specs.plan_check_Limit.{MOST_ENTRIES}
 use Rattle.certificate_text.specs.plan_check_UnfoldLemmas.{at-split, made-at}
 use Rattle.certificate_text.specs.HasText.{HasBitsText, HasElementText, HasNodeText, HaveElementTexts, count}
-use Rattle.certificate_laws.specs.Arms.{HasArmsInOrs}
+use Rattle.certificate_laws.specs.work.Arms.{HasArmsInOrs}
 use Rattle.certificate_laws.proofs.KeysLemmas.{keys-wider, list-outer}
 
 -- a number that has a plan is at most that of the last

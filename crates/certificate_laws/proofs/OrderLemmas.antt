@@ -4,11 +4,12 @@ use Rattle.std.proofs.Common.{◌≡◌, ◌<◌, ℕ, List, [], ◌∷◌, ◌+
 use Rattle.std.specs.Prelude.{Option, Some}
 use Rattle.std.specs.Ordering.{is_gt}
 use Rattle.pg_value.specs.Sorting.{IsInOrder}
-use Rattle.plan_tree.specs.Paths.{Path}
+use Rattle.plan_tree.specs.work.Paths.{Path}
 use Rattle.plan_tree.specs.Plans.{Plan}
 use Rattle.plan_check.specs.Certificates.{Entry, by_seq}
-use Rattle.certificate_laws.specs.Kept.{AreEntriesOf, IsEntryOf}
-use Rattle.certificate_laws.specs.Printing.{path_order, printing_order, said}
+use Rattle.certificate_laws.specs.work.Kept.{AreEntriesOf, IsEntryOf}
+use Rattle.certificate_laws.specs.Printing.{printing_order}
+use Rattle.certificate_laws.specs.work.Printing.{path_order, said}
 
 -- an entry without what it is made of
 abbrev bare : Entry → Entry

@@ -19,9 +19,9 @@ use Rattle.eq_classes.specs.Clauses.{one}
 use Rattle.heap.specs.Tuples.{relation_count}
 use Rattle.pathkeys.specs.Keys.{Keys}
 use Rattle.sql_query.specs.Queries.{Query, width}
-use Rattle.plan_tree.specs.Paths.{Path}
+use Rattle.plan_tree.specs.work.Paths.{Path}
 use Rattle.plan_tree.specs.Plans.{Plan, seq, index, index_only, bitmap, sort, nest, merge, set_of}
-use Rattle.plan_tree.specs.Reads.{IsOverTables}
+use Rattle.plan_tree.specs.work.Reads.{IsOverTables}
 use Rattle.plan_tree.specs.Space.{AreSides, HasKeys, IsBuilt, IsPlanOf, IsSameSet}
 use Rattle.plan_tree.proofs.FrontLemmas.{contains-mapped}
 use Rattle.plan_tree.proofs.PathLemmas.{built-below}
@@ -31,9 +31,9 @@ use Rattle.planner.specs.join_search_Joins.{IsJoinOfKept, IsJoinPath, IsKept, Is
 use Rattle.planner.specs.join_search_Tables.{Fronts}
 use Rattle.plan_tree.proofs.SetLemmas.{reads-some}
 use Rattle.plan_check.specs.Certificates.{relation_in}
-use Rattle.certificate_laws.specs.Made.{AreMadeInTurn, IsMadeAmong, IsSideAmong, tree_of}
-use Rattle.certificate_laws.specs.Printing.{path_order}
-use Rattle.certificate_laws.specs.Searched.{AreOfFronts, IsSearched}
+use Rattle.certificate_laws.specs.work.Made.{AreMadeInTurn, IsMadeAmong, IsSideAmong, tree_of}
+use Rattle.certificate_laws.specs.work.Printing.{path_order}
+use Rattle.certificate_laws.specs.work.Searched.{AreOfFronts, IsSearched}
 use Rattle.certificate_laws.proofs.FrontsLemmas.{from-front, is-path, kept-some}
 use Rattle.certificate_laws.proofs.SizeLemmas.{rank-less}
 

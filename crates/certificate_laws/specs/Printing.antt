@@ -5,8 +5,7 @@ use Rattle.std.specs.Ordering.{nat_cmp}
 use Rattle.std.specs.declared.cmp.Ordering.{Ordering}
 use Rattle.heap.specs.Tuples.{relation_count}
 use Rattle.pg_value.specs.Sorting.{one_after_other}
-use Rattle.plan_tree.specs.Paths.{Path}
-use Rattle.plan_check.specs.Certificates.{Entry, by_seq}
+use Rattle.plan_check.specs.Certificates.{Entry}
 
 -- one entry against another by a number of each
 abbrev pub by_number : (Entry → ℕ) → Entry → Entry → Ordering
@@ -27,11 +26,3 @@ printing_order = one_after_other
     by_number (λ e. e.cost) ∷
     by_number (λ e. e.startup) ∷
     by_keys ∷ [])
-
--- what a path says of itself, as an entry without what it is made of
-abbrev pub said : Path → Entry
-said x = record { set = x.set; param = x.param; node = by_seq; startup = x.startup; cost = x.cost; rows = x.rows; keys = x.keys }
-
--- the order in which two paths are printed, by what they say of themselves
-abbrev pub path_order : Path → Path → Ordering
-path_order x y = printing_order (said x) (said y)

@@ -5,15 +5,16 @@ ghost use Rattle.std.specs.Prelude.{List};
 ghost use Rattle.pg_value.specs.Sorting.{IsInOrder};
 ghost use Rattle.catalog.specs.Contents.{Contents};
 ghost use Rattle.sql_query.specs.Queries.{Query, width};
-ghost use Rattle.plan_tree.specs.Costs.{HaveRows};
-ghost use Rattle.plan_tree.specs.Paths.{Path};
-ghost use Rattle.plan_tree.specs.Reads.{IsOverTables};
+ghost use Rattle.plan_tree.specs.work.Costs.{HaveRows};
+ghost use Rattle.plan_tree.specs.work.Paths.{Path};
+ghost use Rattle.plan_tree.specs.work.Reads.{IsOverTables};
 ghost use Rattle.planner.specs.join_search_Tables.{Fronts};
 ghost use Rattle.plan_check.specs.Certificates.{Certificate};
-ghost use Rattle.certificate_laws.specs.Kept.{AreKept, AreOf};
-ghost use Rattle.certificate_laws.specs.Made.{AreMadeInTurn};
-ghost use Rattle.certificate_laws.specs.Printing.{path_order, printing_order};
-ghost use Rattle.certificate_laws.specs.Searched.{AreOfFronts, IsSearched};
+ghost use Rattle.certificate_laws.specs.work.Kept.{AreKept, AreOf};
+ghost use Rattle.certificate_laws.specs.work.Made.{AreMadeInTurn};
+ghost use Rattle.certificate_laws.specs.Printing.{printing_order};
+ghost use Rattle.certificate_laws.specs.work.Printing.{path_order};
+ghost use Rattle.certificate_laws.specs.work.Searched.{AreOfFronts, IsSearched};
 
 /// The paths of the fronts of a search for every key and every cost dominate each admissible scan and each admissible join
 /// of their plans, and none of them dominates another.

@@ -8,7 +8,7 @@ ghost use Rattle.certificate_text.specs.plan_check_Certificates.{Certificate, En
 ghost use Rattle.certificate_text.specs.plan_check_Limit.{MOST_ENTRIES};
 ghost use Rattle.certificate_text.specs.plan_check_Tables.{IsPlanTable};
 ghost use Rattle.certificate_text.specs.HasText.{HasText};
-ghost use Rattle.certificate_laws.specs.Arms.{HasArmsInOrs};
+ghost use Rattle.certificate_laws.specs.work.Arms.{HasArmsInOrs};
 
 /// A table of a well bound query that is not too long has a text, where each OR of the query has an arm and its entries have
 /// no startup unless the query has a window. A bitmap by an OR without arms would be one of the space, and has no text.

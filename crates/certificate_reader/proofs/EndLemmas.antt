@@ -3,7 +3,7 @@ use Rattle.std.proofs.Common.{◌≡◌, ◌<◌, ◌≤◌, ◌+◌, ◌-◌, �
 use Rattle.std.proofs.lemmas.Bool.{and_from, eqb-true}
 use Rattle.std.proofs.lemmas.List.{length-drop, take_all}
 use Rattle.certificate_entries.specs.certificate_text_Texts.{ended, is_line}
-use Rattle.certificate_reader.specs.Reading.{line_end}
+use Rattle.certificate_reader.specs.work.Reading.{line_end}
 
 -- a text is its first line, the LF, and what follows
 pub record IsCut (text : List ℕ) (n : ℕ) : Type 0 where

@@ -14,7 +14,7 @@ use Rattle.pathkeys.specs.Keys.{Keys}
 use Rattle.sql_query.specs.Queries.{Query}
 use Rattle.sql_query.specs.WellBound.{IsWellBound}
 use Rattle.certificate_entries.specs.certificate_text_HasText.{HasKeysText}
-use Rattle.certificate_entries.specs.Keys.{HasKeyText, ends_key, family_if}
+use Rattle.certificate_entries.specs.work.Keys.{HasKeyText, ends_key, family_if}
 use Rattle.certificate_entries.proofs.KeyLemmas.{words-read}
 
 -- a name before a point does not begin with a parenthesis

@@ -16,7 +16,7 @@ use Rattle.plan_check.specs.Certificates.{Entry, Side}
 use Rattle.plan_check.specs.Limit.{MOST_ENTRIES}
 use Rattle.certificate_reader.specs.Faults.{BeginsText, IsCertificateText}
 use Rattle.certificate_entries.specs.certificate_text_HasText.{HasEntryLine, IsEntryNumber}
-use Rattle.certificate_reader.specs.Passed.{Passed}
+use Rattle.certificate_reader.specs.work.Passed.{Passed}
 use Rattle.certificate_entries.specs.certificate_text_Texts.{best_line, ended, entries_text, entry_line, entry_text, head_text, is_line}
 use Rattle.pg_base.proofs.ListLemmas.{digit-first}
 

@@ -11,10 +11,11 @@ use Rattle.plan_check.specs.Certificates.{Entry, Side}
 use Rattle.plan_check.specs.Limit.{MOST_ENTRIES}
 use Rattle.certificate_reader.specs.Faults.{BeginsText, IsFaultLine, IsCertificateText, StopsBehind, at_line, at_end, lines_joined}
 use Rattle.certificate_entries.specs.certificate_text_HasText.{HasEntryLine}
-use Rattle.certificate_reader.specs.Passed.{Passed}
-use Rattle.certificate_reader.specs.Reading.{AreOnly, IsAtBest, IsBlockRead, IsReadSoFar, head_lines, line_end}
+use Rattle.certificate_reader.specs.work.Passed.{Passed}
+use Rattle.certificate_reader.specs.Reading.{IsBlockRead}
+use Rattle.certificate_reader.specs.work.Reading.{AreOnly, IsAtBest, IsReadSoFar, head_lines, line_end}
 use Rattle.certificate_entries.specs.certificate_text_Texts.{best_line, certificate_text, ended, entries_text, entry_line, head_text, is_line}
-use Rattle.certificate_entries.specs.Reading.{IsBad, IsBestRead, IsEntryRead}
+use Rattle.certificate_entries.specs.work.Reading.{IsBad, IsBestRead, IsEntryRead}
 use Rattle.certificate_reader.proofs.EndLemmas.{cut, whole-line}
 use Rattle.certificate_reader.proofs.LineLemmas.{after, best-line, best-stops, entry-passed, line-stops, other-line, part-begins, part-ends, parted, piece-stops}
 

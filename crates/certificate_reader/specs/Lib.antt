@@ -1,4 +1,3 @@
 pub mod Faults
-pub mod Passed
 pub mod Reading
-pub mod Parts
+pub mod work

@@ -2,9 +2,11 @@
 
 ghost use Rattle.std.specs.Prelude.{◌≡◌, ◌<◌, ◌≤◌, ◌+◌, ◌++◌, ◌^◌, IfErr, IfNone, IfOk, IfSome, OnOk, length, map, true};
 ghost use Rattle.sql_query.specs.WellBound.{IsWellBound};
-ghost use Rattle.plan_check.specs.Views.{certificate, entry, side};
+ghost use Rattle.plan_check.specs.Views.{side};
+ghost use Rattle.plan_check.specs.work.Views.{certificate, entry};
 ghost use Rattle.certificate_entries.specs.certificate_text_Texts.{head_text, is_line};
-ghost use Rattle.certificate_reader.specs.Reading.{GetsEntry, IsAtBest, IsBlock, IsCertificateOf, IsFault, IsFirstLine, IsOnlyCertificate, LacksHead, head_lines, line_end};
+ghost use Rattle.certificate_reader.specs.Reading.{IsOnlyCertificate};
+ghost use Rattle.certificate_reader.specs.work.Reading.{GetsEntry, IsAtBest, IsBlock, IsCertificateOf, IsFault, IsFirstLine, LacksHead, head_lines, line_end};
 
 use catalog::Catalog;
 use certificate_entries::{Line, LineFault, ReadLine};

@@ -2,8 +2,9 @@
 
 ghost use Rattle.std.specs.Prelude.{◌≤◌, ◌^◌, IfErr, IfOk, length};
 ghost use Rattle.sql_query.specs.WellBound.{IsWellBound};
-ghost use Rattle.plan_check.specs.Views.{certificate};
-ghost use Rattle.certificate_reader.specs.Reading.{IsCertificateOf, IsFault, IsOnlyCertificate};
+ghost use Rattle.plan_check.specs.work.Views.{certificate};
+ghost use Rattle.certificate_reader.specs.Reading.{IsOnlyCertificate};
+ghost use Rattle.certificate_reader.specs.work.Reading.{IsCertificateOf, IsFault};
 
 use crate::line::LineReader;
 use crate::{CertFault, read_block};

@@ -3,9 +3,10 @@
 ghost use Rattle.std.specs.Prelude.{◌≡◌, IfNone, IfOk, IfSome, IsTrue, ◌↔◌};
 ghost use Rattle.sql_query.specs.WellBound.{IsWellBound};
 ghost use Rattle.plan_check.specs.Views as views;
-ghost use Rattle.plan_check.specs.Views.{entry};
+ghost use Rattle.plan_check.specs.work.Views as views_work;
+ghost use Rattle.plan_check.specs.work.Views.{entry};
 ghost use Rattle.certificate_entries.specs.certificate_text_HasText.{HasEntryLine};
-ghost use Rattle.certificate_reader.specs.Parts.{AreSets, FindsEntry, ReadsHead, ReadsSome, entry_by};
+ghost use Rattle.certificate_reader.specs.work.Parts.{AreSets, FindsEntry, ReadsHead, ReadsSome, entry_by};
 ghost use Rattle.certificate_entries.specs.certificate_text_Texts.{entry_line};
 
 use crate::measures::{Measures, read_measures};
@@ -54,7 +55,7 @@ fn read_head(
 
 /// The entry of these parts.
 fn entry_of(set: RelSet, param: RelSet, node: Node, measures: Measures) -> Entry
-    ensures { entry result ≡ entry_by set param (views.node node) measures }
+    ensures { entry result ≡ entry_by set param (views_work.node node) measures }
 {
     Entry {
         set,

@@ -2,8 +2,9 @@
 
 ghost use Rattle.std.specs.Prelude.{IfNone, IfOk, IfSome};
 ghost use Rattle.sql_query.specs.WellBound.{IsWellBound};
-ghost use Rattle.plan_check.specs.Views.{entry, side};
-ghost use Rattle.certificate_entries.specs.Reading.{IsBestRead, IsEntryRead, IsNoBestLine, IsNoEntryLine, IsRead};
+ghost use Rattle.plan_check.specs.Views.{side};
+ghost use Rattle.plan_check.specs.work.Views.{entry};
+ghost use Rattle.certificate_entries.specs.work.Reading.{IsBestRead, IsEntryRead, IsNoBestLine, IsNoEntryLine, IsRead};
 
 use crate::entry::{is_entry_line, read_entry};
 use catalog::Catalog;

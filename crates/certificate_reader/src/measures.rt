@@ -5,7 +5,7 @@ ghost use Rattle.pg_base.specs.Sets.{has};
 ghost use Rattle.certificate_entries.specs.explain_Texts.{keys_text};
 ghost use Rattle.sql_query.specs.WellBound.{IsWellBound};
 ghost use Rattle.certificate_entries.specs.certificate_text_HasText.{HasKeysText};
-ghost use Rattle.certificate_reader.specs.Parts.{FindsMeasures, HasMeasuresText};
+ghost use Rattle.certificate_reader.specs.work.Parts.{FindsMeasures, HasMeasuresText};
 
 use catalog::Catalog;
 use certificate_entries::{read_figures, read_key_list};

@@ -14,7 +14,7 @@ use Rattle.std.proofs.lemmas.Str.Parse.{IsDigitsTest, numerals_by_value}
 use Rattle.std.proofs.lemmas.Option.{same_Some, none-some}
 use Rattle.pg_base.proofs.NameLemmas.{decimal-digits}
 use Rattle.pg_value.specs.Fields.{is_numeral}
-use Rattle.certificate_text.specs.Words.{below_end, has_leading_zero, number_written}
+use Rattle.certificate_text.specs.work.Words.{below_end, has_leading_zero, number_written}
 
 -- a byte is a digit
 digit-range : (c : ℕ) → is_ascii_digit c ≡ true → IsInRange 48 57 c

@@ -5,7 +5,7 @@ use Rattle.std.proofs.lemmas.List.{length-append, length-drop, take-append-drop,
 use Rattle.std.specs.List.{list_all}
 use Rattle.std.proofs.lemmas.Bool.{and_from, and_parts, true≢false}
 use Rattle.pg_base.specs.Names.{is_in_name}
-use Rattle.certificate_text.specs.Words.{stops, word_end}
+use Rattle.certificate_text.specs.work.Words.{stops, word_end}
 
 stopped : (b : Bool) (n : ℕ) → not b ≡ true → cond b (suc n) 0 ≡ 0
 stopped true n e = absurd (true≢false (sym e))

@@ -1,6 +1,6 @@
 -- The text of a certificate: a line for each entry, and one for the best plan. Own; it is written and read by the same
 -- words.
-use Rattle.std.specs.Prelude.{ℕ, suc, ◌+◌, ◌==◌, Bool, true, false, not, cond, List, [], ◌∷◌, ◌++◌, codes, map, Option, Some, None}
+use Rattle.std.specs.Prelude.{ℕ, ◌+◌, ◌==◌, Bool, true, false, not, cond, List, [], ◌∷◌, ◌++◌, codes, map, Option, Some, None}
 use Rattle.std.specs.Fmt.{decimal}
 use Rattle.std.specs.List.{list_all}
 use Rattle.pg_base.specs.Sets.{has}
@@ -13,14 +13,8 @@ use Rattle.sql_query.specs.declared.window.Window.{Window}
 use Rattle.plan_tree.specs.Plans.{BitTree, leaf, all_hold, some_arm, BitTrees, no_trees, tree_and, is_empty}
 use Rattle.eq_classes.specs.Clauses.{Set}
 use Rattle.explain.specs.Texts.{aliases_in, backward_text, conjunct_text, cost_text, keys_text, scan_name, with_commas}
-use Rattle.plan_check.specs.Views.{entry, node}
-use Rattle.plan_check.specs.declared.entry.Entry.{Entry as Entered}
-use Rattle.plan_check.specs.declared.entry.Node.{Node as Noded}
+use Rattle.plan_check.specs.work.Views.{entry, node}
 use Rattle.plan_check.specs.Certificates.{Side, Node, by_seq, by_index, by_index_only, by_bitmap, by_nest, by_merge, Entry, Certificate}
-
--- nothing before the first of texts in a row, a comma alone before each other one
-abbrev pub bare_comma : Bool → List ℕ
-bare_comma first = cond first [] (codes ",")
 
 -- texts in a row: the first behind a text of its own, each other one behind a comma alone
 abbrev pub with_bare_commas : List ℕ → List (List ℕ) → List ℕ
@@ -102,10 +96,6 @@ module _ (c : Contents) (q : Query) where
     tree_texts no_trees = []
     tree_texts (tree_and b bs) = tree_text b ∷ tree_texts bs
 
-  -- the parts of an AND in a row
-  abbrev pub tree_list : BitTrees → List ℕ
-  tree_list bs = with_commas [] (tree_texts bs)
-
   -- what an entry of a set is
   abbrev pub node_text : RelSet → Node → List ℕ
   node_text s by_seq = codes "Seq Scan"
@@ -114,10 +104,6 @@ module _ (c : Contents) (q : Query) where
   node_text s (by_bitmap bits) = codes "Bitmap Heap Scan " ++ tree_text bits
   node_text s (by_nest a b) = nest_text a b
   node_text s (by_merge keys a b) = codes "Merge Join by " ++ (keys_text c q (has s.0) keys ++ sides_text a b)
-
-  -- the text of what an entry of the program is, beside its set
-  abbrev pub node_words : RelSet → Noded → List ℕ
-  node_words s n = node_text s (node n)
 
   -- an entry's set, its parameterisation and what it is
   abbrev pub made_text : Entry → List ℕ
@@ -144,10 +130,6 @@ module _ (c : Contents) (q : Query) where
   abbrev pub entries_text : ℕ → List Entry → List ℕ
   entries_text n [] = []
   entries_text n (e ∷ es) = ended_line n e ++ entries_text (n + 1) es
-
-  -- the lines of the program's entries, from 1 on
-  abbrev pub written_entries : List Entered → List ℕ
-  written_entries es = entries_text 1 (map entry es)
 
   -- the text of a certificate
   abbrev pub certificate_text : Certificate → List ℕ

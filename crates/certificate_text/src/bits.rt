@@ -2,10 +2,11 @@
 
 ghost use Rattle.std.specs.Prelude.{◌≡◌, ◌++◌, [], All, OnOk, codes, cond};
 ghost use Rattle.catalog.specs.Contents.{IsIndex};
-ghost use Rattle.explain.specs.Texts.{Gets};
-ghost use Rattle.plan_tree.specs.Views.{bits, bits_all};
+ghost use Rattle.explain.specs.work.Texts.{Gets};
+ghost use Rattle.plan_tree.specs.work.Views.{bits, bits_all};
 ghost use Rattle.certificate_text.specs.HasText.{HasBitsText, HasElementText, HaveElementTexts};
-ghost use Rattle.certificate_text.specs.Texts.{leaf_text, leaf_texts, or_text, tree_list, tree_text};
+ghost use Rattle.certificate_text.specs.Texts.{leaf_text, leaf_texts, or_text, tree_text};
+ghost use Rattle.certificate_text.specs.work.Texts.{tree_list};
 
 use catalog::Catalog;
 use explain::{conjunct_of, put_conjunct};

@@ -4,7 +4,7 @@ ghost use Rattle.std.specs.Prelude.{◌≡◌, ◌↔◌, ◌<◌, ◌≤◌, �
 ghost use Rattle.std.specs.Fmt.{decimal};
 ghost use Rattle.std.specs.List.{list_all};
 ghost use Rattle.pg_base.specs.Names.{is_in_name};
-ghost use Rattle.certificate_text.specs.Words.{IsNextNumber, IsNextWord, PassesOver, below_end, has_leading_zero, number_written, stops, word_end};
+ghost use Rattle.certificate_text.specs.work.Words.{IsNextNumber, IsNextWord, PassesOver, below_end, has_leading_zero, number_written, stops, word_end};
 
 use pg_value::read_digits;
 use std::marker::Model;

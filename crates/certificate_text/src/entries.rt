@@ -4,13 +4,16 @@ ghost use Rattle.std.specs.Prelude.{◌≡◌, ◌≤◌, ◌++◌, All, IfOk, O
 ghost use Rattle.std.specs.Fmt.{decimal};
 ghost use Rattle.pg_base.specs.Sets.{has};
 ghost use Rattle.cost_rules.specs.Costs.{pair};
-ghost use Rattle.explain.specs.Texts.{Gets, cost_text};
+ghost use Rattle.explain.specs.Texts.{cost_text};
+ghost use Rattle.explain.specs.work.Texts.{Gets};
 ghost use Rattle.sql_query.specs.Queries.{width};
 ghost use Rattle.sql_query.specs.WellBound.{IsWellBound};
 ghost use Rattle.plan_check.specs.Limit.{MOST_ENTRIES};
-ghost use Rattle.plan_check.specs.Views.{certificate, entry, side};
+ghost use Rattle.plan_check.specs.Views.{side};
+ghost use Rattle.plan_check.specs.work.Views.{certificate, entry};
 ghost use Rattle.certificate_text.specs.HasText.{HasEntryLine, HasText};
-ghost use Rattle.certificate_text.specs.Texts.{best_line, certificate_text, ended, ended_line, entry_line, head_text, made_text, measures_text, written_entries};
+ghost use Rattle.certificate_text.specs.Texts.{best_line, certificate_text, ended, ended_line, entry_line, head_text, made_text, measures_text};
+ghost use Rattle.certificate_text.specs.work.Texts.{written_entries};
 
 use crate::nodes::{put_node, put_number, put_side};
 use crate::sets::{put_param, put_set};

@@ -5,12 +5,14 @@ ghost use Rattle.std.specs.Fmt.{decimal};
 ghost use Rattle.std.specs.String.{string_bytes};
 ghost use Rattle.pg_base.specs.Sets.{has};
 ghost use Rattle.catalog.specs.Contents.{IsIndex};
-ghost use Rattle.explain.specs.Texts.{Gets};
+ghost use Rattle.explain.specs.work.Texts.{Gets};
 ghost use Rattle.sql_query.specs.WellBound.{IsWellBound};
 ghost use Rattle.plan_check.specs.Views as views;
+ghost use Rattle.plan_check.specs.work.Views as views_work;
 ghost use Rattle.plan_check.specs.Views.{side};
 ghost use Rattle.certificate_text.specs.HasText.{HasNodeText};
-ghost use Rattle.certificate_text.specs.Texts.{by_index_text, nest_text, node_words, side_text, sides_text, two_numbers};
+ghost use Rattle.certificate_text.specs.Texts.{by_index_text, nest_text, side_text, sides_text, two_numbers};
+ghost use Rattle.certificate_text.specs.work.Texts.{node_words};
 
 use crate::bits::put_bits;
 use catalog::Catalog;
@@ -101,7 +103,7 @@ pub(crate) fn put_node(
     node: &Node,
 ) -> Result<(), Memory>
     requires bound { IsWellBound cat.now q.now }
-    requires node { HasNodeText cat.now q.now (has set.0) (views.node node.now) }
+    requires node { HasNodeText cat.now q.now (has set.0) (views_work.node node.now) }
     ensures { OnOk result (Gets text.old text.new (node_words cat.now q.now set node.now)) }
 {
     match node {

@@ -4,7 +4,8 @@ ghost use Rattle.std.specs.Prelude.{◌≡◌, ◌≤◌, ◌++◌, ℕ, List, I
 ghost use Rattle.pg_base.specs.Sets.{has};
 ghost use Rattle.explain.specs.Texts.{with_alias};
 ghost use Rattle.sql_query.specs.Queries.{width};
-ghost use Rattle.certificate_text.specs.Texts.{alias_list, bare_comma, param_text, set_text, with_bare_commas};
+ghost use Rattle.certificate_text.specs.Texts.{alias_list, param_text, set_text, with_bare_commas};
+ghost use Rattle.certificate_text.specs.work.Texts.{bare_comma};
 
 use pg_base::{Memory, RelNo, RelSet};
 use plan_tree::range_of;

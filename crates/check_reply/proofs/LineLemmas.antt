@@ -10,7 +10,8 @@ use Rattle.plan_check.specs.Verdicts.{IsVerdict}
 use Rattle.plan_check.specs.declared.verdict.Verdict.{Verdict}
 use Rattle.plan_check.specs.declared.verdict.Verdict.TheVariants as verdicts
 use Rattle.reply_text.specs.Texts.{invalid_line}
-use Rattle.check_reply.specs.Checked.{IsCheckedText, IsTableText, IsVerdictLine, wrong_line_text, faulty, judged, valid_line}
+use Rattle.check_reply.specs.Checked.{IsCheckedText, IsVerdictLine, wrong_line_text, faulty, judged, valid_line}
+use Rattle.check_reply.specs.work.Checked.{IsTableText}
 
 -- no line begins so and so
 apart : (reason rest : List ℕ) → invalid_line reason ≡ codes "valid" ++ rest → ⊥

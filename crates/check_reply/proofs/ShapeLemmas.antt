@@ -19,19 +19,19 @@ use Rattle.plan_tree.specs.Keys.{keys_of, scan_keys}
 use Rattle.plan_tree.specs.Plans.{BitTree, Plan, seq, index, index_only, bitmap, nest, merge, set_of}
 use Rattle.plan_tree.specs.Space.{IsBuilt}
 use Rattle.scan_paths.proofs.SpaceLemmas.{given-param}
-use Rattle.bitmap_scan.specs.Chosen.{combined}
+use Rattle.bitmap_scan.specs.work.Chosen.{combined}
 use Rattle.plan_check.specs.Certificates.{Certificate, Entry, Side, by_bitmap, by_index, by_index_only, by_merge, by_nest, by_seq, join_by, plan_at, plans_of, relation_in, side_at, sorted_if, unfold_at}
 use Rattle.plan_check.specs.Views.{side as seen}
 use Rattle.plan_check.specs.declared.entry.Side.{Side as Sided}
 use Rattle.plan_check.proofs.UnfoldLemmas.{numbered}
 use Rattle.certificate_check.specs.entry_check_ScanLemmas.{relation-found}
 use Rattle.certificate_check.specs.join_cover_CoverLemmas.{right-at}
-use Rattle.plan_check.specs.Beating.{IsRight}
+use Rattle.plan_check.specs.work.Beating.{IsRight}
 use Rattle.plan_check.specs.Plains.{IsTreeOf, StandsForPlan, keys_in}
 use Rattle.plan_check.specs.declared.verdict.Plain.{Plain}
 use Rattle.plan_check.specs.declared.verdict.Plain.TheVariants as plain
 use Rattle.plan_check.specs.Reasons.{AllRight}
-use Rattle.check_reply.specs.Telling.{Tells, trees_by}
+use Rattle.check_reply.specs.work.Telling.{Tells, trees_by}
 use Rattle.check_reply.proofs.TreeLemmas.{tree-told}
 use Rattle.pg_base.proofs.OptionLemmas.{some-same}
 use Rattle.pg_base.proofs.OptionLemmas.{none-some}

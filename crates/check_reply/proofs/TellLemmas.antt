@@ -39,7 +39,7 @@ use Rattle.certificate_check.specs.certificate_laws_Arms.{HasArmsInOrs}
 use Rattle.certificate_check.specs.certificate_laws_KeysLemmas.{keys-wider, plan-text}
 use Rattle.certificate_check.specs.certificate_laws_NodeLemmas.{node-text}
 use Rattle.check_reply.specs.Checked.{IsToldBy, with_entry}
-use Rattle.check_reply.specs.Telling.{Tells, entry_with}
+use Rattle.check_reply.specs.work.Telling.{Tells, entry_with}
 use Rattle.certificate_check.specs.entry_check_PartLemmas.{kept-start as started}
 use Rattle.certificate_check.specs.certificate_laws_EntryLemmas.{inside}
 

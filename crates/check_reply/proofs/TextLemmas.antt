@@ -14,7 +14,8 @@ use Rattle.plan_check.specs.declared.verdict.Number.{Number}
 use Rattle.plan_check.specs.declared.verdict.Number.TheVariants.{Startup, Total, Rows}
 use Rattle.plan_check.specs.declared.verdict.Reason.{Reason}
 use Rattle.plan_check.specs.declared.verdict.Reason.TheVariants as reasons
-use Rattle.check_reply.specs.Checked.{HasWords, IsReasonText, bad_node_text, bad_number_text, wrong_line_text, is_uncovered, number_name}
+use Rattle.check_reply.specs.Checked.{IsReasonText, bad_node_text, bad_number_text, wrong_line_text, number_name}
+use Rattle.check_reply.specs.work.Checked.{HasWords, is_uncovered}
 
 -- a number is given by its digits
 number-same : (n m : ℕ) → n < 2 ^ 64 → m < 2 ^ 64 → decimal n ≡ decimal m → n ≡ m

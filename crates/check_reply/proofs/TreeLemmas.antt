@@ -6,7 +6,7 @@ use Rattle.std.proofs.lemmas.Bool.{eq-eqb, ne_eqb}
 use Rattle.std.proofs.lemmas.List.{append-nil, drop_more, length-map, length-take, map-append}
 use Rattle.pg_base.specs.declared.numbers.IndexNo.{IndexNo}
 use Rattle.pg_expr.specs.Cond.{Cond, any_of}
-use Rattle.pg_expr.specs.View.{cond as condition, conds}
+use Rattle.pg_expr.specs.work.View.{cond as condition, conds}
 use Rattle.pg_expr.specs.declared.expr.Expr.{Expr}
 use Rattle.eq_classes.proofs.ConditionLemmas.{listed_conds}
 use Rattle.catalog.specs.Contents.{Contents}
@@ -15,16 +15,16 @@ use Rattle.index_match.specs.Arms.{arms_of}
 use Rattle.sql_query.specs.Queries.{Query}
 use Rattle.plan_tree.specs.Bitmaps.{AreElements, Element, HasArms, HaveArms, IsBitTree, IsElement, MOST_ELEMENTS, MatchesArm, by_clause, by_index, candidates, condition_at, element_of, elements_of}
 use Rattle.plan_tree.specs.Plans.{BitTree, leaf, all_hold, some_arm, BitTrees, no_trees, tree_and}
-use Rattle.plan_tree.specs.Views.{bits, element, trees_of}
+use Rattle.plan_tree.specs.work.Views.{bits, element, trees_of}
 use Rattle.plan_tree.specs.declared.bits.BitTree.{BitTree as Bits}
 use Rattle.plan_tree.specs.declared.elements.Element.{Element as Chosen}
 use Rattle.plan_space.proofs.TreeLemmas.{picked-once}
-use Rattle.bitmap_scan.specs.Chosen.{combined, marked}
+use Rattle.bitmap_scan.specs.work.Chosen.{combined, marked}
 use Rattle.bitmap_scan.proofs.KeptLemmas.{combined-many}
 use Rattle.pg_base.proofs.ListLemmas.{zip-length}
 use Rattle.certificate_check.specs.scan_cover_MarkLemmas.{mask-marks}
 use Rattle.plan_check.specs.Plains.{IsTreeOf, arms_in, arms_in_all, elements_in}
-use Rattle.check_reply.specs.Telling.{arms_taken, tree_by, trees_by}
+use Rattle.check_reply.specs.work.Telling.{arms_taken, tree_by, trees_by}
 
 -- the arms of an OR, counted
 pub arms-counted : (e : Cond) (arms : List Expr) → e ≡ any_of (conds arms) → length arms ≡ length (arms_of e)

@@ -1,11 +1,11 @@
 -- What CHECK of a SELECT's certificate prints: one line. Own.
-use Rattle.std.specs.Prelude.{ℕ, ◌≡◌, ◌<◌, ◌^◌, Bool, true, false, nat_eq, cond, List, [], ◌∷◌, ◌++◌, length, codes}
+use Rattle.std.specs.Prelude.{ℕ, ◌≡◌, nat_eq, cond, List, [], ◌∷◌, ◌++◌, length, codes}
 use Rattle.std.specs.Fmt.{decimal}
 use Rattle.catalog.specs.Contents.{Contents}
 use Rattle.reply_text.specs.Texts.{invalid_line}
 use Rattle.sql_query.specs.Queries.{Query}
 use Rattle.plan_check.specs.Certificates.{Certificate, Entry}
-use Rattle.plan_check.specs.Tables.{IsEntryAt, IsPlanTable}
+use Rattle.plan_check.specs.Tables.{IsEntryAt}
 use Rattle.certificate_check.specs.certificate_text_HasText.{HasEntryLine}
 use Rattle.certificate_check.specs.certificate_text_Texts.{ended, entry_text}
 use Rattle.certificate_reader.specs.Faults.{IsFaultLine, IsCertificateText}
@@ -48,19 +48,6 @@ dominated_text n m = codes "C5 entry " ++ (decimal n ++ (codes " by " ++ decimal
 -- the price of the best plan, and the least one
 abbrev pub not_best_text : ℕ → ℕ → List ℕ
 not_best_text printed own = codes "C6 best " ++ (decimal printed ++ (codes " least " ++ decimal own))
-
--- a reason that is a plan no entry dominates
-abbrev pub is_uncovered : Reason → Bool
-is_uncovered (reasons.Uncovered node startup total rows) = true
-is_uncovered _ = false
-
--- the numbers of any other reason are below 2^64, as those of the program are
-abbrev pub HasWords : Reason → Type 0
-HasWords (reasons.BadNode n) = n < 2 ^ 64
-HasWords (reasons.BadNumber n what printed own) = (n < 2 ^ 64) × (printed < 2 ^ 64) × (own < 2 ^ 64)
-HasWords (reasons.Uncovered node startup total rows) = Unit {0}
-HasWords (reasons.Dominated n m) = (n < 2 ^ 64) × (m < 2 ^ 64)
-HasWords (reasons.NotBest printed own) = (printed < 2 ^ 64) × (own < 2 ^ 64)
 
 -- a plan that no entry dominates, as the line of an entry without its number
 abbrev pub uncovered_text : Contents → Query → Entry → List ℕ
@@ -112,9 +99,3 @@ module _ (c : Contents) (q : Query) where
   pub data IsCheckedText (block bytes : List ℕ) : Type 0 where
     faulty : IsFaulty block bytes → IsCheckedText block bytes
     judged : IsBlockJudged block bytes → IsCheckedText block bytes
-
-  -- the block is the text of a certificate that is a table of the query
-  pub record IsTableText (block : List ℕ) : Type 0 where
-    pub certificate : Certificate
-    pub read : IsBlockRead c q block certificate
-    pub table : IsPlanTable c q certificate

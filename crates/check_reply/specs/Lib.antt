@@ -1,8 +1,9 @@
 pub mod Checked
-pub mod Telling
+pub mod work
 -- What callers name of the crates below.
 pub use Rattle.certificate_reader.specs.Faults as certificate_reader_Faults
 pub use Rattle.certificate_reader.specs.Reading as certificate_reader_Reading
+pub use Rattle.certificate_reader.specs.work.Reading as certificate_reader_work_Reading
 pub use Rattle.certificate_reader.proofs.LineLemmas as certificate_reader_LineLemmas
 pub use Rattle.certificate_reader.proofs.PlainLemmas as certificate_reader_PlainLemmas
 pub use Rattle.certificate_reader.proofs.ReadingLemmas as certificate_reader_ReadingLemmas

@@ -2,9 +2,10 @@
 
 ghost use Rattle.std.specs.Prelude.{◌≡◌, ◌≤◌, ◌^◌, ℕ, IfOk, length};
 ghost use Rattle.certificate_reader.specs.declared.block.CertFault.TheVariants as faults;
-ghost use Rattle.plan_check.specs.Views.{certificate};
+ghost use Rattle.plan_check.specs.work.Views.{certificate};
 ghost use Rattle.reply_text.specs.Texts as lines;
 ghost use Rattle.check_reply.specs.Checked as texts;
+ghost use Rattle.check_reply.specs.work.Checked as texts_work;
 ghost use Rattle.check_reply.specs.Checked.{IsCheckedText, IsReasonText, IsVerdictLine};
 ghost use Rattle.plan_check.specs.Verdicts.{IsReason, IsVerdict};
 ghost use Rattle.plan_check.specs.declared.verdict.Verdict.{Verdict as Said};

@@ -4,7 +4,8 @@ ghost use Rattle.std.specs.Prelude.{◌≡◌, ◌<◌, ◌^◌, ◌++◌, ℕ, 
 ghost use Rattle.catalog.specs.Contents.{Contents};
 ghost use Rattle.sql_query.specs.Queries.{Query};
 ghost use Rattle.plan_check.specs.Certificates.{Certificate};
-ghost use Rattle.check_reply.specs.Checked.{HasWords, IsCheckedText, IsReasonText, IsTableText, wrong_line_text, is_uncovered, valid_line};
+ghost use Rattle.check_reply.specs.Checked.{IsCheckedText, IsReasonText, wrong_line_text, valid_line};
+ghost use Rattle.check_reply.specs.work.Checked.{HasWords, IsTableText, is_uncovered};
 ghost use Rattle.plan_check.specs.declared.verdict.Reason.{Reason};
 
 /// A line that begins with `valid` is printed of the text of a certificate that is a table of the query alone, and that line

@@ -2,6 +2,7 @@
 
 ghost use Rattle.std.specs.Prelude.{◌≡◌, IfOk};
 ghost use Rattle.check_reply.specs.Checked as texts;
+ghost use Rattle.check_reply.specs.work.Checked as texts_work;
 
 use pg_base::Memory;
 use plan_check::Number;

@@ -2,14 +2,14 @@
 
 ghost use Rattle.std.specs.Prelude.{◌≡◌, ◌<◌, ◌≤◌, ◌-◌, ℕ, IfOk, Some, cond, length, slice_get};
 ghost use Rattle.catalog.specs.Contents.{Contents, IsIndex};
-ghost use Rattle.pathkeys.specs.Finding.{class_numbers};
+ghost use Rattle.pathkeys.specs.work.Finding.{class_numbers};
 ghost use Rattle.pathkeys.specs.Keys.{AreDifferent};
 ghost use Rattle.plan_tree.specs.Keys as lists;
-ghost use Rattle.plan_tree.specs.Reads.{IsOverTables};
+ghost use Rattle.plan_tree.specs.work.Reads.{IsOverTables};
 ghost use Rattle.sql_query.specs.Queries.{Query, width};
 ghost use Rattle.plan_check.specs.Certificates as forms;
-ghost use Rattle.plan_check.specs.Views.{certificate, entry, node};
-ghost use Rattle.check_reply.specs.Telling.{IsShapeOf};
+ghost use Rattle.plan_check.specs.work.Views.{certificate, entry, node};
+ghost use Rattle.check_reply.specs.work.Telling.{IsShapeOf};
 ghost use Rattle.plan_check.specs.Plains.{keys_in};
 ghost use Rattle.plan_check.specs.Reasons.{AllRight};
 ghost use Rattle.plan_check.specs.declared.verdict.Plain.TheVariants as plain;

@@ -1,9 +1,9 @@
 //! The bitmap trees of candidates.
 
 ghost use Rattle.std.specs.Prelude.{◌≡◌, IfOk, drop, map, take};
-ghost use Rattle.bitmap_scan.specs.Chosen.{combined};
-ghost use Rattle.check_reply.specs.Telling as telling;
-ghost use Rattle.plan_tree.specs.Views.{bits, element};
+ghost use Rattle.bitmap_scan.specs.work.Chosen.{combined};
+ghost use Rattle.check_reply.specs.work.Telling as telling;
+ghost use Rattle.plan_tree.specs.work.Views.{bits, element};
 
 use pg_base::{IndexNo, Memory};
 use plan_tree::{BitTree, BitTrees, Element, arms_at};

@@ -4,7 +4,8 @@ use Rattle.std.proofs.lemmas.Bool.{cases_lt}
 use Rattle.std.proofs.lemmas.Grind.{common_steps}
 use Rattle.cost_rules.specs.declared.pair.Pair.{Pair}
 use Rattle.cost_rules.specs.declared.parameters.TheConstants.{MOST_COST, OPERATOR}
-use Rattle.cost_rules.specs.Costs.{pair, row_cost, IsAtMost, IsCost, capped, capped_pair, sort_work, sort_cost, nest_cost, merge_cost}
+use Rattle.cost_rules.specs.Costs.{pair, row_cost, sort_work, sort_cost, nest_cost, merge_cost}
+use Rattle.cost_rules.specs.work.Costs.{IsAtMost, IsCost, capped, capped_pair}
 use Rattle.cost_rules.proofs.RisingLemmas.{once-at_least}
 
 pairs-are : (a b c d : ℕ) → a ≡ c → b ≡ d → pair a b ≡ pair c d

@@ -5,7 +5,8 @@ use Rattle.std.proofs.Common.{inl, inr, ◌⊎◌}
 use Rattle.std.proofs.Math.Nat.{pow-le-pow_left}
 use Rattle.std.proofs.lemmas.Bool.{cases_lt, leb-true, leb-false}
 use Rattle.std.proofs.lemmas.Grind.{common_steps}
-use Rattle.cost_rules.specs.Powers.{IsLeastPower, power_from, log_up}
+use Rattle.cost_rules.specs.Powers.{power_from, log_up}
+use Rattle.cost_rules.specs.work.Powers.{IsLeastPower}
 
 more-below : (b n k : ℕ) → ((j : ℕ) → j < k → b ^ j < n) → b ^ k < n → (j : ℕ) → j < k + 1 → b ^ j < n
 more-below b n k h e j lt = elim (eq-or-below j k (omega (arith, lt))) [ inl same ↦ subst (λ i. b ^ i < n) (sym same) e | inr less ↦ h j less ]

@@ -4,7 +4,8 @@ use Rattle.std.specs.Int.{div_ceil}
 use Rattle.std.proofs.lemmas.Grind.{common_steps, div_ceil_times}
 use Rattle.cost_rules.specs.declared.pair.Pair.{Pair}
 use Rattle.cost_rules.specs.declared.parameters.TheConstants.{OPERATOR}
-use Rattle.cost_rules.specs.Costs.{pair, row_cost, IsAtMost, sort_work, sort_cost, nest_cost, merge_cost, price_of}
+use Rattle.cost_rules.specs.Costs.{pair, row_cost, sort_work, sort_cost, nest_cost, merge_cost, price_of}
+use Rattle.cost_rules.specs.work.Costs.{IsAtMost}
 
 sort-by : (a b : Pair) (w n : ℕ) → IsAtMost a b → IsAtMost (pair (a.total + w) (a.total + w + n)) (pair (b.total + w) (b.total + w + n))
 sort-by a b w n h = record { startup = omega (arith, h.total); total = omega (arith, h.total) }

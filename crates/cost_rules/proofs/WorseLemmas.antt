@@ -1,6 +1,6 @@
 -- The better one of two prices.
 use Rattle.std.proofs.Common.{◌≡◌, ◌≤◌, Bool, true, false, refl, sym, ◌∙◌, le_refl, le_trans, true≢false}
-use Rattle.cost_rules.specs.Worse.{IsNoWorse}
+use Rattle.cost_rules.specs.work.Worse.{IsNoWorse}
 use Rattle.cost_rules.specs.declared.prices.Price.{Price}
 
 pub no-worse-self : (a : Price) → IsNoWorse a a

@@ -1,37 +1,14 @@
 -- Costs of sorts and joins, before the first row and in all (PostgreSQL manual, Using EXPLAIN; the rules are own). They
 -- are exact: no number is cut.
-use Rattle.std.specs.Prelude.{ℕ, ◌+◌, ◌*◌, ◌-◌, ◌≤◌, min, max}
+use Rattle.std.specs.Prelude.{ℕ, ◌+◌, ◌*◌, ◌-◌, max}
 use Rattle.std.specs.Int.{div_ceil}
 use Rattle.cost_rules.specs.declared.pair.Pair.{Pair}
-use Rattle.cost_rules.specs.declared.parameters.TheConstants.{MOST_COST, MOST_ESTIMATE, OPERATOR, TUPLE}
+use Rattle.cost_rules.specs.declared.parameters.TheConstants.{OPERATOR, TUPLE}
 use Rattle.cost_rules.specs.Powers.{log_up}
 
 -- what is spent before the first row, and in all, in 1/400 of a sequential page
 abbrev pub pair : ℕ → ℕ → Pair
 pair startup total = record { startup = startup; total = total }
-
--- neither number is above the other's
-pub record IsAtMost (a b : Pair) : Type 0 where
-  pub startup : a.startup ≤ b.startup
-  pub total : a.total ≤ b.total
-
--- a cost that was cut: no more before the first row than in all, and at most 10^18
-pub record IsCost (p : Pair) : Type 0 where
-  pub startup : p.startup ≤ p.total
-  pub most : p.total ≤ MOST_COST
-
--- a number of rows that is estimated: 1 to 10^12
-pub record IsEstimate (n : ℕ) : Type 0 where
-  pub some : 1 ≤ n
-  pub most : n ≤ MOST_ESTIMATE
-
--- a cost cut to at most 10^18
-abbrev pub capped : ℕ → ℕ
-capped n = min n MOST_COST
-
--- a cost of which both numbers are cut to at most 10^18
-abbrev pub capped_pair : Pair → Pair
-capped_pair p = pair (capped p.startup) (capped p.total)
 
 -- a row with so many operators
 abbrev pub row_cost : ℕ → ℕ

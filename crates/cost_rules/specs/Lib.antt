@@ -1,4 +1,4 @@
 pub mod Powers
 pub mod Costs
 pub mod Scans
-pub mod Worse
+pub mod work

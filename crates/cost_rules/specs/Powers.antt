@@ -1,11 +1,6 @@
 -- Powers that reach a number, and numbers of rows cut to what is estimated. Own.
-use Rattle.std.specs.Prelude.{ℕ, zero, suc, ◌+◌, ◌^◌, ◌<◌, ◌≤◌, min, max, true, false, nat_le}
+use Rattle.std.specs.Prelude.{ℕ, zero, suc, ◌+◌, ◌^◌, min, max, true, false, nat_le}
 use Rattle.cost_rules.specs.declared.parameters.TheConstants.{MOST_ESTIMATE}
-
--- k is the least power to which b is at least n
-pub record IsLeastPower (b n k : ℕ) : Type 0 where
-  pub reached : n ≤ b ^ k
-  pub least : (j : ℕ) → j < k → b ^ j < n
 
 -- the first power from k on to which b is at least n, with so many steps left
 abbrev pub power_from : ℕ → ℕ → ℕ → ℕ → ℕ

@@ -1,7 +1,8 @@
 //! Costs of sorts and joins, and the price of a plan's first rows. Each cost is cut to at most 10^18.
 
 ghost use Rattle.std.specs.Prelude.{◌≡◌, ◌≤◌, ◌+◌, ◌^◌};
-ghost use Rattle.cost_rules.specs.Costs.{IsCost, IsEstimate, capped_pair, row_cost, sort_cost, nest_cost, merge_cost, price_of};
+ghost use Rattle.cost_rules.specs.Costs.{row_cost, sort_cost, nest_cost, merge_cost, price_of};
+ghost use Rattle.cost_rules.specs.work.Costs.{IsCost, IsEstimate, capped_pair};
 
 use crate::pair::{Pair, cut};
 use crate::parameters::{MOST_COST, OPERATOR, TUPLE};

@@ -2,8 +2,10 @@
 
 ghost use Rattle.std.specs.Prelude.{◌≡◌, ◌≤◌, ℕ};
 ghost use Rattle.cost_rules.specs.declared.pair.Pair.{Pair};
-ghost use Rattle.cost_rules.specs.Powers.{IsLeastPower, log_up};
-ghost use Rattle.cost_rules.specs.Costs.{IsAtMost, IsCost, capped_pair, sort_cost, nest_cost, merge_cost, price_of};
+ghost use Rattle.cost_rules.specs.Powers.{log_up};
+ghost use Rattle.cost_rules.specs.work.Powers.{IsLeastPower};
+ghost use Rattle.cost_rules.specs.Costs.{sort_cost, nest_cost, merge_cost, price_of};
+ghost use Rattle.cost_rules.specs.work.Costs.{IsAtMost, IsCost, capped_pair};
 
 /// The rules of sorts and joins raise neither number of a plan where neither number of a child rises, they give at
 /// least each child's total, and a price does not fall where neither number falls.

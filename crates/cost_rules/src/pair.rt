@@ -1,7 +1,7 @@
 //! The two costs of a plan.
 
 ghost use Rattle.std.specs.Prelude.{◌≡◌};
-ghost use Rattle.cost_rules.specs.Costs.{capped};
+ghost use Rattle.cost_rules.specs.work.Costs.{capped};
 
 use crate::parameters::MOST_COST;
 

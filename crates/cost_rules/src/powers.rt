@@ -1,9 +1,10 @@
 //! Powers that reach a number.
 
 ghost use Rattle.std.specs.Prelude.{◌≡◌, ◌≤◌};
-ghost use Rattle.cost_rules.specs.Costs.{IsEstimate};
+ghost use Rattle.cost_rules.specs.work.Costs.{IsEstimate};
 ghost use Rattle.cost_rules.specs.declared.parameters.TheConstants.{ENTRIES_PER_PAGE};
-ghost use Rattle.cost_rules.specs.Powers.{IsLeastPower, log_up as log_of};
+ghost use Rattle.cost_rules.specs.Powers.{log_up as log_of};
+ghost use Rattle.cost_rules.specs.work.Powers.{IsLeastPower};
 
 /// The least power to which `base` is at least `n`. `base` is from 2 to 200, and `n` from 1 to 10^12.
 pub fn log_up(base: u64, n: u64) -> u64

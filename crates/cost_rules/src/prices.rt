@@ -1,7 +1,7 @@
 //! Prices, and the better one of two.
 
 ghost use Rattle.std.specs.Prelude.{◌≡◌, ◌⊎◌, ◌↔◌, IsTrue};
-ghost use Rattle.cost_rules.specs.Worse.{IsNoWorse};
+ghost use Rattle.cost_rules.specs.work.Worse.{IsNoWorse};
 
 /// The price of a finished plan. No number is cut.
 #[derive(Clone, Copy, Debug)]

@@ -3,7 +3,8 @@
 
 ghost use Rattle.std.specs.Prelude.{◌≡◌, ◌≤◌, ◌*◌, ◌^◌};
 ghost use Rattle.cost_rules.specs.declared.parameters.TheConstants.{MOST_COST, MOST_ESTIMATE};
-ghost use Rattle.cost_rules.specs.Costs.{IsCost, IsEstimate, capped, capped_pair, row_cost};
+ghost use Rattle.cost_rules.specs.Costs.{row_cost};
+ghost use Rattle.cost_rules.specs.work.Costs.{IsCost, IsEstimate, capped, capped_pair};
 ghost use Rattle.cost_rules.specs.Scans.{pages_of_entries, height_of, descent_of, heap_pages_of, seq_scan_cost, part_cost, fetch_cost, index_scan_cost, page_in_order, bitmap_scan_cost, run_cost, leaves_cost};
 
 use crate::pair::{Pair, cut};

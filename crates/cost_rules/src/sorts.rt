@@ -1,7 +1,8 @@
 //! What sorts cost. No number is cut.
 
 ghost use Rattle.std.specs.Prelude.{◌≡◌, ◌≤◌, ℕ};
-ghost use Rattle.cost_rules.specs.Costs.{IsEstimate, pair, sort_cost};
+ghost use Rattle.cost_rules.specs.Costs.{pair, sort_cost};
+ghost use Rattle.cost_rules.specs.work.Costs.{IsEstimate};
 ghost use Rattle.cost_rules.specs.declared.parameters.TheConstants.{MOST_COST};
 
 use crate::{Pair, log_up};

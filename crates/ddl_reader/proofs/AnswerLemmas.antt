@@ -4,7 +4,7 @@ use Rattle.std.proofs.lemmas.List.{map-append}
 use Rattle.pg_base.specs.declared.faults.Fault.{Fault}
 use Rattle.pg_base.specs.declared.faults.Refusal.{Refusal}
 use Rattle.pg_base.specs.declared.faults.Refusal.TheVariants as refusal
-use Rattle.ddl_reader.specs.AsMeant.{IsAsMeant, Tells}
+use Rattle.ddl_reader.specs.work.AsMeant.{IsAsMeant, Tells}
 
 module _ (T : Type 0) (A : Type 0) (B : T → Type 0) where
   pub none-of : (o : Option T) → ((x : T) → o ≡ Some x → ⊥) → MatchOption o A B → A

@@ -5,7 +5,7 @@ use Rattle.sql_grammar.specs.Terminals.{Terminal, t_mark}
 use Rattle.sql_grammar.specs.Syntax.{Mark, ColDef}
 use Rattle.sql_grammar.specs.Words.{words_of_coldef, words_of_columns}
 use Rattle.ddl_reader.specs.Columns.{Written, BoundColumn, defined_column, bound_column}
-use Rattle.ddl_reader.specs.AsMeant.{ends_nulls}
+use Rattle.ddl_reader.specs.work.AsMeant.{ends_nulls}
 use Rattle.ddl_reader.proofs.ListLemmas.{Parts}
 
 abbrev pub column_parts : Parts ColDef Written BoundColumn

@@ -12,15 +12,15 @@ use Rattle.sql_grammar.specs.Terminals.{Terminal, Said, free, t_mark, t_name, t_
 use Rattle.sql_grammar.specs.Syntax.{Mark, Lit, Share, share, CommonPart, no_common, common, Histogram, no_histogram, histogram}
 use Rattle.sql_grammar.specs.Words.{words_of_lit, words_of_share, words_of_shares, words_of_common, words_of_bounds, words_of_histogram}
 use Rattle.expr_reader.specs.declared.cursor.Number.{Number}
-use Rattle.expr_reader.specs.Reading.{numbered, BeginsNot, BeginsNumber}
+use Rattle.expr_reader.specs.work.Reading.{numbered, BeginsNot, BeginsNumber}
 use Rattle.expr_reader.specs.declared.value.Placed.{Placed}
 use Rattle.expr_reader.specs.Literals.{typed_value, place_of_lit}
 use Rattle.expr_reader.specs.Conditions.{next}
-use Rattle.expr_reader.specs.Reads.{Reads as ReadsOn}
+use Rattle.expr_reader.specs.work.Reads.{Reads as ReadsOn}
 use Rattle.ddl_reader.specs.declared.literals.CommonRead.{CommonRead}
 use Rattle.ddl_reader.specs.Statistics.{CommonWords, common_words, commons_of, bounds_of}
 use Rattle.expr_reader.specs.Lists.{further_parts}
-use Rattle.ddl_reader.specs.AsMeant.{IsAsMeant, ends_common, ends_histogram, words_of_shares_left, words_of_bounds_left, placed, common_placed}
+use Rattle.ddl_reader.specs.work.AsMeant.{IsAsMeant, ends_common, ends_histogram, words_of_shares_left, words_of_bounds_left, placed, common_placed}
 use Rattle.ddl_reader.proofs.ListLemmas.{Parts}
 
 -- the kinds of list

@@ -4,7 +4,7 @@ use Rattle.pg_value.specs.declared.columns.Column.{Column}
 use Rattle.sql_lex.specs.declared.tokens.Token.{Token}
 use Rattle.ddl_reader.specs.declared.columns.ColumnDef.{ColumnDef}
 use Rattle.ddl_reader.specs.Columns.{BoundColumn}
-use Rattle.ddl_reader.specs.AsMeant.{seen}
+use Rattle.ddl_reader.specs.work.AsMeant.{seen}
 use Rattle.ddl_reader.specs.Tables.{table, table_reading}
 
 -- the name, the column and the place of the name

@@ -13,13 +13,14 @@ use Rattle.sql_grammar.specs.Terminals.{Terminal, Ident, token_of, t_mark, t_nam
 use Rattle.sql_grammar.specs.Syntax.{Mark}
 use Rattle.sql_grammar.specs.Faults.{bytes_of, fault_at}
 use Rattle.expr_reader.specs.declared.cursor.Spelled.{Spelled}
-use Rattle.expr_reader.specs.Reading.{BeginsName, spelled}
+use Rattle.expr_reader.specs.Reading.{spelled}
+use Rattle.expr_reader.specs.work.Reading.{BeginsName}
 use Rattle.ddl_reader.specs.declared.ddl.Read.{Read}
 use Rattle.ddl_reader.specs.declared.columns.ColumnDef.{ColumnDef}
 use Rattle.ddl_reader.specs.Columns.{BoundColumn}
-use Rattle.ddl_reader.specs.AsMeant.{IsAsMeant, seen}
+use Rattle.ddl_reader.specs.work.AsMeant.{IsAsMeant, seen}
 use Rattle.ddl_reader.specs.Tables.{Reading, table_reading, limited_columns, bound_table}
-use Rattle.ddl_reader.specs.Readings.{reading}
+use Rattle.ddl_reader.specs.work.Readings.{reading}
 use Rattle.ddl_reader.proofs.Parts.{named}
 
 -- a table's name and `(` are taken

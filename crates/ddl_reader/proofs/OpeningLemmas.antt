@@ -4,8 +4,8 @@ use Rattle.sql_lex.specs.declared.tokens.Token.{Token}
 use Rattle.sql_grammar.specs.declared.class.Free.TheVariants.{Index}
 use Rattle.sql_grammar.specs.declared.class.Word.TheVariants.{Create}
 use Rattle.sql_grammar.specs.Terminals.{Terminal, free, t_key, t_name}
-use Rattle.expr_reader.specs.Reading.{Begins, BeginsNot}
-use Rattle.ddl_reader.specs.Statements.{begins_index}
+use Rattle.expr_reader.specs.work.Reading.{Begins, BeginsNot}
+use Rattle.ddl_reader.specs.work.Statements.{begins_index}
 
 -- CREATE is not next
 pub no-create : (ts : List Terminal) → BeginsNot (t_key Create) ts → false ≡ begins_index ts

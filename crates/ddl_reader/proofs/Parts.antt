@@ -6,9 +6,10 @@ use Rattle.sql_grammar.specs.Terminals.{Terminal, Ident, t_key, t_name}
 use Rattle.sql_grammar.specs.Syntax.{Nulls, unwritten, not_null, nullable}
 use Rattle.sql_grammar.specs.Words.{words_of_nulls}
 use Rattle.expr_reader.specs.declared.cursor.Spelled.{Spelled}
-use Rattle.expr_reader.specs.Reading.{BeginsNot, BeginsName, spelled}
+use Rattle.expr_reader.specs.Reading.{spelled}
+use Rattle.expr_reader.specs.work.Reading.{BeginsNot, BeginsName}
 use Rattle.ddl_reader.specs.Columns.{refuses_null}
-use Rattle.ddl_reader.specs.AsMeant.{ends_nulls}
+use Rattle.ddl_reader.specs.work.AsMeant.{ends_nulls}
 
 -- a name that is taken
 pub named : (n : Ident) (ws : List Terminal) (s : Spelled) (old new : List Terminal) → old ≡ t_name n ∷ ws → BeginsName s old new → (s ≡ spelled n) × (new ≡ ws)

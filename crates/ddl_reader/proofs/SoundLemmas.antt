@@ -15,7 +15,7 @@ use Rattle.sql_grammar.specs.Terminals.{Terminal, Ident, token_of, t_name}
 use Rattle.sql_grammar.specs.Syntax.{Mark, Nulls, unwritten, not_null, nullable, ColDef, coldef, Statement, empty, create_table, create_index, query, copy, sizes, column_statistics, analyze, advise, check, use_plan, grouped}
 use Rattle.sql_grammar.specs.Words.{words_of, words_of_nulls, words_of_coldef, words_of_columns, words_of_ending}
 use Rattle.sql_grammar.specs.Faults.{bytes_of}
-use Rattle.sql_grammar.specs.Unique.{token_in}
+use Rattle.sql_grammar.specs.work.Unique.{token_in}
 use Rattle.sql_grammar.proofs.ExprTrees.{tokens-are}
 use Rattle.sql_grammar.specs.CopyLine.{IsDataStart, after_blanks}
 use Rattle.pg_base.specs.Names.{IsName}
@@ -27,9 +27,10 @@ use Rattle.ddl_reader.specs.Columns.{Written, BoundColumn, defined_column, furth
 use Rattle.ddl_reader.specs.Statistics.{commons_of, bounds_of}
 use Rattle.ddl_reader.specs.Tables.{Reading, data_for, table_reading, limited_columns, bound_table, data_for_named, data_after}
 use Rattle.pg_value.specs.Fields.{null_text}
-use Rattle.ddl_reader.specs.Statements.{Means, IsMeaning}
-use Rattle.ddl_reader.specs.Readings.{reading}
-use Rattle.ddl_reader.specs.Soundness.{IsSound}
+use Rattle.ddl_reader.specs.Statements.{Means}
+use Rattle.ddl_reader.specs.work.Statements.{IsMeaning}
+use Rattle.ddl_reader.specs.work.Readings.{reading}
+use Rattle.ddl_reader.specs.work.Soundness.{IsSound}
 use Rattle.ddl_reader.proofs.TokenLaws.{starts-within}
 use Rattle.ddl_reader.proofs.ListLemmas.{each-same}
 use Rattle.ddl_reader.proofs.SoundStatisticsLemmas.{AreWithin, within-all, known-table, sizes-sound, column-sound, analysis-sound, places-within}

@@ -19,7 +19,7 @@ use Rattle.sql_grammar.specs.Terminals.{Terminal, Ident, Said, token_of, t_mark,
 use Rattle.sql_grammar.specs.Syntax.{Mark, Lit, number, negative, quoted, constant, Share, share, CommonPart, no_common, common, Histogram, no_histogram, histogram}
 use Rattle.sql_grammar.specs.Words.{words_of_lit, words_of_share, words_of_shares, words_of_common, words_of_bounds, words_of_histogram}
 use Rattle.sql_grammar.specs.Faults.{bytes_of}
-use Rattle.sql_grammar.specs.Unique.{token_in}
+use Rattle.sql_grammar.specs.work.Unique.{token_in}
 use Rattle.expr_reader.specs.Literals.{typed_value}
 use Rattle.expr_reader.specs.Conditions.{next}
 use Rattle.catalog.specs.Contents.{Contents, IsTable, IsColumn, IsLawful, no_table, table_at, table_names}
@@ -29,7 +29,7 @@ use Rattle.catalog.specs.Tables.{table_named, column_named}
 use Rattle.expr_reader.specs.Lists.{further_parts, bound_each}
 use Rattle.ddl_reader.specs.Statistics.{CommonWords, common_words, commons_of, bounds_of, common_value, known, number_of_32, number_of_64, start_of, start_of_lit, starts_of_common, places_of, sizes_reading, statistics_reading, column_of_name, stated_rows, column_statistics_of, analysis, analysis_reading}
 use Rattle.ddl_reader.specs.Tables.{Reading, statistics_for}
-use Rattle.ddl_reader.specs.Soundness.{IsSound}
+use Rattle.ddl_reader.specs.work.Soundness.{IsSound}
 use Rattle.ddl_reader.proofs.ListLemmas.{each-same}
 use Rattle.expr_reader.proofs.EachLemmas.{each-holds}
 use Rattle.ddl_reader.proofs.ValueLemmas.{typed-is}

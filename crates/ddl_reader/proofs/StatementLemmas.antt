@@ -10,19 +10,21 @@ use Rattle.sql_grammar.specs.declared.class.Symbol.TheVariants.{Dot, Open}
 use Rattle.sql_grammar.specs.Terminals.{Terminal, Ident, Said, free, token_of, t_key, t_mark, t_name}
 use Rattle.sql_grammar.specs.Syntax.{Key, Mark, ColDef, CopyWords, CommonPart, Histogram, Ending, Statement, empty, create_table, create_index, query, copy, sizes, column_statistics, analyze, semicolon, text_end, index_on, no_explain, explain, explain_table, ordered_select, select_from, advise, advise_of, check, use_plan, unexplained, explained, grouped}
 use Rattle.sql_grammar.specs.Words.{words_of, words_of_ending}
-use Rattle.sql_grammar.specs.Faults.{bytes_of, terminals, IsWhole}
+use Rattle.sql_grammar.specs.Faults.{bytes_of, terminals}
+use Rattle.sql_grammar.specs.work.Faults.{IsWhole}
 use Rattle.sql_grammar.specs.CopyLine.{IsDataStart}
 use Rattle.sql_grammar.proofs.ExprTrees.{tokens-are}
-use Rattle.expr_reader.specs.Reading.{BeginsNot}
+use Rattle.expr_reader.specs.work.Reading.{BeginsNot}
 use Rattle.catalog.specs.Contents.{Contents}
 use Rattle.catalog.specs.Tables.{table_named}
 use Rattle.ddl_reader.specs.declared.ddl.Read.{Read}
 use Rattle.ddl_reader.specs.Columns.{defined_column, further, bound_all}
-use Rattle.ddl_reader.specs.AsMeant.{words_of_body, IsAsMeant, SpellsSizes, SpellsColumn, ends_common, ends_histogram, words_of_sizes, words_of_column}
+use Rattle.ddl_reader.specs.work.AsMeant.{words_of_body, IsAsMeant, SpellsSizes, SpellsColumn, ends_common, ends_histogram, words_of_sizes, words_of_column}
 use Rattle.ddl_reader.specs.Statistics.{stated_rows, column_statistics_of, commons_of, bounds_of, analysis}
 use Rattle.ddl_reader.specs.Tables.{Reading, bound_table, data_after}
-use Rattle.ddl_reader.specs.Statements.{begins_ddl, HasNoLineFault, Means, IsMeaning, IsDdlFault, IsDdlRefusal}
-use Rattle.ddl_reader.specs.Readings.{reading, ReadsAs, IsSyntaxRefusal}
+use Rattle.ddl_reader.specs.Statements.{Means}
+use Rattle.ddl_reader.specs.work.Statements.{begins_ddl, HasNoLineFault, IsMeaning, IsDdlFault, IsDdlRefusal}
+use Rattle.ddl_reader.specs.work.Readings.{reading, ReadsAs, IsSyntaxRefusal}
 
 -- a statement that is CREATE TABLE, whose words after CREATE are these
 pub record CreatesTable (x : Statement) (left : List Terminal) : Type 0 where

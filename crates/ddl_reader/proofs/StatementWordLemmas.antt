@@ -6,13 +6,14 @@ use Rattle.pg_base.specs.declared.numbers.TableNo.{TableNo}
 use Rattle.sql_grammar.specs.declared.class.Symbol.TheVariants.{Dot}
 use Rattle.sql_grammar.specs.Terminals.{Terminal, Ident, Said, t_mark}
 use Rattle.expr_reader.specs.declared.cursor.Spelled.{Spelled}
-use Rattle.expr_reader.specs.Reading.{BeginsName, BeginsNot, spelled}
+use Rattle.expr_reader.specs.Reading.{spelled}
+use Rattle.expr_reader.specs.work.Reading.{BeginsName, BeginsNot}
 use Rattle.expr_reader.specs.Conditions.{next}
 use Rattle.catalog.specs.Contents.{Contents}
 use Rattle.catalog.specs.Tables.{table_named}
 use Rattle.ddl_reader.specs.Statistics.{known, table_of_name, analysis, analysis_reading}
 use Rattle.ddl_reader.specs.Tables.{Reading, analysis_of}
-use Rattle.ddl_reader.specs.AsMeant.{SpellsSizes, SpellsColumn, words_of_sizes}
+use Rattle.ddl_reader.specs.work.AsMeant.{SpellsSizes, SpellsColumn, words_of_sizes}
 use Rattle.ddl_reader.proofs.Parts.{named}
 
 -- without a dot the sizes of a table are left

@@ -9,7 +9,7 @@ use Rattle.pg_value.specs.declared.value.Value.{Value}
 use Rattle.sql_lex.specs.declared.tokens.Token.{Token}
 use Rattle.sql_grammar.specs.Terminals.{Said}
 use Rattle.sql_grammar.specs.Syntax.{Lit}
-use Rattle.expr_reader.specs.Reading.{numbered}
+use Rattle.expr_reader.specs.work.Reading.{numbered}
 use Rattle.expr_reader.specs.declared.value.Placed.{Placed}
 use Rattle.expr_reader.specs.Literals.{typed_value, place_of_lit}
 use Rattle.expr_reader.specs.Conditions.{next}
@@ -17,8 +17,8 @@ use Rattle.ddl_reader.specs.declared.literals.CommonRead.{CommonRead}
 use Rattle.ddl_reader.specs.declared.statistics.Counted.{Counted}
 use Rattle.expr_reader.specs.Lists.{bound_each}
 use Rattle.ddl_reader.specs.Statistics.{CommonWords, common_value, number_of_32, start_of, start_of_lit, starts_of_common, statistics_reading}
-use Rattle.ddl_reader.specs.AsMeant.{placed, common_placed, common_seen, starts_seen, value_seen, start_seen}
-use Rattle.ddl_reader.specs.Readings.{statistics_read}
+use Rattle.ddl_reader.specs.work.AsMeant.{placed, common_placed, common_seen, starts_seen, value_seen, start_seen}
+use Rattle.ddl_reader.specs.work.Readings.{statistics_read}
 use Rattle.ddl_reader.proofs.ListLemmas.{each-ok, each-err, each-same}
 
 -- the greatest number of the narrower field counts

@@ -9,7 +9,6 @@ use Rattle.sql_lex.specs.declared.tokens.Token.{Token}
 use Rattle.sql_grammar.specs.Terminals.{token_of}
 use Rattle.sql_grammar.specs.Syntax.{Mark, Nulls, unwritten, not_null, nullable, ColDef, coldef}
 use Rattle.sql_grammar.specs.Faults.{bytes_of, fault_at}
-use Rattle.expr_reader.specs.declared.cursor.Spelled.{Spelled}
 use Rattle.ddl_reader.specs.Types.{type_named}
 use Rattle.expr_reader.specs.Lists.{further_parts, bound_each}
 
@@ -36,11 +35,6 @@ refuses_null (nullable _) = false
 -- a column
 abbrev pub defined_column : ColDef → Written
 defined_column (coldef name kind nulls) = record { name = bytes_of name; name_at = token_of name; kind = bytes_of kind; kind_at = token_of kind; not_null = refuses_null nulls }
-
--- a column by its name and the name of its type, as they were read
-abbrev pub written_column : Spelled → Spelled → Bool → Written
-written_column name kind strict =
-    record { name = name.bytes; name_at = name.token; kind = kind.bytes; kind_at = kind.token; not_null = strict }
 
 -- further columns
 abbrev pub further : List (Mark × ColDef) → List Written

@@ -2,9 +2,7 @@ pub mod Block
 pub mod Types
 pub mod Lists
 pub mod Columns
-pub mod AsMeant
 pub mod Tables
 pub mod Statistics
-pub mod Readings
-pub mod Soundness
 pub mod Statements
+pub mod work

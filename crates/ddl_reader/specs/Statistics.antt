@@ -13,7 +13,6 @@ use Rattle.sql_lex.specs.declared.tokens.Token.{Token}
 use Rattle.sql_grammar.specs.Terminals.{Ident, Said, token_of}
 use Rattle.sql_grammar.specs.Syntax.{Lit, Share, share, CommonPart, no_common, common, Histogram, no_histogram, histogram}
 use Rattle.sql_grammar.specs.Faults.{bytes_of, fault_at}
-use Rattle.expr_reader.specs.declared.cursor.Spelled.{Spelled}
 use Rattle.expr_reader.specs.Literals.{typed_value, place_of_lit}
 use Rattle.expr_reader.specs.Conditions.{next}
 use Rattle.catalog.specs.Contents.{Contents, table_at}
@@ -88,14 +87,6 @@ table_of_name cat n = known S2 (token_of n) (table_named cat (bytes_of n))
 -- the column of this name, of a table
 abbrev pub column_of_name : Contents → TableNo → Ident → Result ColNo Fault
 column_of_name cat t n = known S3 (token_of n) (column_named cat t (bytes_of n))
-
--- the table of a name that was read
-abbrev pub table_spelled : Contents → Spelled → Result TableNo Fault
-table_spelled cat name = known S2 name.token (table_named cat name.bytes)
-
--- the column of a name that was read, of a table
-abbrev pub column_spelled : Contents → TableNo → Spelled → Result ColNo Fault
-column_spelled cat t name = known S3 name.token (column_named cat t name.bytes)
 
 -- what is known of a column of this type of a table: all literals are bound, from the left
 abbrev pub statistics_reading : SqlType → TableNo → ColNo → Said → Said → List CommonWords → List Lit → Result Reading Fault

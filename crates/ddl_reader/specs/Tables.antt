@@ -10,12 +10,8 @@ use Rattle.pg_base.specs.declared.faults.Fault.{Fault}
 use Rattle.pg_value.specs.declared.columns.Column.{Column}
 use Rattle.pg_value.specs.Fields.{null_text}
 use Rattle.sql_lex.specs.declared.tokens.Token.{Token}
-use Rattle.sql_grammar.specs.Terminals.{Ident, Said, token_of}
-use Rattle.sql_grammar.specs.Faults.{bytes_of, fault_at}
-use Rattle.catalog.specs.Contents.{Contents}
+use Rattle.sql_grammar.specs.Faults.{fault_at}
 use Rattle.catalog.specs.Statistics.{Statistics}
-use Rattle.catalog.specs.Tables.{table_named}
-use Rattle.expr_reader.specs.declared.cursor.Spelled.{Spelled}
 use Rattle.ddl_reader.specs.Columns.{BoundColumn}
 
 -- what is defined: a table by its name, its columns' names and its columns; the rows and pages of a table; what is known of
@@ -60,11 +56,3 @@ data_for_named (Some t) name_at null null_at start =
 abbrev pub data_after : Option TableNo → Token → List ℕ → Token → Result ℕ Fault → Result Reading Fault
 data_after t name_at null null_at (Err f) = Err f
 data_after t name_at null null_at (Ok start) = data_for_named t name_at null null_at start
-
--- COPY into the table of a name, with this text for NULL, both as they were read
-abbrev pub data_spelled : Contents → Spelled → Spelled → ℕ → Result Reading Fault
-data_spelled cat name null start = data_for_named (table_named cat name.bytes) name.token null.bytes null.token start
-
--- COPY into the table of a name, with this text for NULL, both as they are written
-abbrev pub data_named : Contents → Ident → Said → ℕ → Result Reading Fault
-data_named cat n null start = data_for_named (table_named cat (bytes_of n)) (token_of n) null.value null.token start

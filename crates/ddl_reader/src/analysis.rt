@@ -3,8 +3,8 @@
 ghost use Rattle.std.specs.Prelude.{◌≡◌, ◌∷◌, List};
 ghost use Rattle.sql_grammar.specs.Terminals.{Terminal, Ident, t_name};
 ghost use Rattle.ddl_reader.specs.Statistics.{analysis as analysis_meant};
-ghost use Rattle.expr_reader.specs.Reading.{IfNext};
-ghost use Rattle.ddl_reader.specs.Readings.{IsReadingOf};
+ghost use Rattle.expr_reader.specs.work.Reading.{IfNext};
+ghost use Rattle.ddl_reader.specs.work.Readings.{IsReadingOf};
 
 use crate::ddl::{Ddl, Read};
 use crate::statistics::table_of;

@@ -5,9 +5,10 @@ ghost use Rattle.sql_grammar.specs.Terminals.{Terminal};
 ghost use Rattle.sql_grammar.specs.Syntax.{ColDef};
 ghost use Rattle.sql_grammar.specs.Words.{words_of_nulls, words_of_coldef};
 ghost use Rattle.ddl_reader.specs.declared.columns.ColumnDef.{ColumnDef};
-ghost use Rattle.ddl_reader.specs.Columns.{refuses_null, defined_column, further, BoundColumn, bound_column, bound_all, written_column};
-ghost use Rattle.ddl_reader.specs.AsMeant.{ends_nulls, words_of_body, IsAsMeant, Tells, seen, AreColumnsMeant};
-ghost use Rattle.expr_reader.specs.Reading.{IfFirst, Yields, StandsList, IfList, LeavesRest};
+ghost use Rattle.ddl_reader.specs.Columns.{refuses_null, defined_column, further, BoundColumn, bound_column, bound_all};
+ghost use Rattle.ddl_reader.specs.work.Columns.{written_column};
+ghost use Rattle.ddl_reader.specs.work.AsMeant.{ends_nulls, words_of_body, IsAsMeant, Tells, seen, AreColumnsMeant};
+ghost use Rattle.expr_reader.specs.work.Reading.{IfFirst, Yields, StandsList, IfList, LeavesRest};
 
 use crate::types::type_named;
 use crate::words::{name, word_fault};

@@ -1,9 +1,10 @@
 //! The words of COPY.
 
 ghost use Rattle.ddl_reader.specs.declared.ddl.Read.{Read};
-ghost use Rattle.ddl_reader.specs.AsMeant.{Tells};
-ghost use Rattle.ddl_reader.specs.Tables.{Reading, data_spelled, data_named};
-ghost use Rattle.ddl_reader.specs.Readings.{reading, IsReadingOf, AreOfCopy, IfCopy};
+ghost use Rattle.ddl_reader.specs.work.AsMeant.{Tells};
+ghost use Rattle.ddl_reader.specs.Tables.{Reading};
+ghost use Rattle.ddl_reader.specs.work.Tables.{data_spelled, data_named};
+ghost use Rattle.ddl_reader.specs.work.Readings.{reading, IsReadingOf, AreOfCopy, IfCopy};
 
 use crate::ddl::{Ddl, Read};
 use crate::words::{name, quoted, word_fault};

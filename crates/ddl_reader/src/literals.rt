@@ -8,8 +8,8 @@ ghost use Rattle.expr_reader.specs.declared.value.Placed.{Placed};
 ghost use Rattle.ddl_reader.specs.declared.literals.CommonRead.{CommonRead};
 ghost use Rattle.expr_reader.specs.Lists.{further_parts, bound_each};
 ghost use Rattle.ddl_reader.specs.Statistics.{common_words, commons_of, bounds_of};
-ghost use Rattle.ddl_reader.specs.AsMeant.{IsAsMeant, ends_common, ends_histogram, words_of_shares_left, words_of_bounds_left, placed, common_placed, AreAsMeant};
-ghost use Rattle.expr_reader.specs.Reading.{StandsFirst, IfFirst, IfWords, StandsList, IfList, LeavesRest, LeavesWords, LeavesClose};
+ghost use Rattle.ddl_reader.specs.work.AsMeant.{IsAsMeant, ends_common, ends_histogram, words_of_shares_left, words_of_bounds_left, placed, common_placed, AreAsMeant};
+ghost use Rattle.expr_reader.specs.work.Reading.{StandsFirst, IfFirst, IfWords, StandsList, IfList, LeavesRest, LeavesWords, LeavesClose};
 
 use crate::words::number;
 use expr_reader::{Cursor, Number, Placed, read_literal};

@@ -4,10 +4,11 @@ ghost use Rattle.std.specs.Prelude.{◌≡◌, ◌≤◌, ◌<◌, ◌^◌, ℕ,
 ghost use Rattle.sql_lex.specs.Words.{AreWords};
 ghost use Rattle.sql_grammar.specs.Syntax.{Statement, copy as copy_tree};
 ghost use Rattle.sql_grammar.specs.Words.{words_of};
-ghost use Rattle.sql_grammar.specs.Faults.{terminals, IsWhole};
-ghost use Rattle.ddl_reader.specs.Statements.{opens_ddl, begins_ddl, begins_index, IsMeaning, IsDdlRefusal};
-ghost use Rattle.ddl_reader.specs.Readings.{reading, ReadsAs, IsSyntaxRefusal, AreOfCopy, IfCopy, IsLastEnd};
-ghost use Rattle.ddl_reader.specs.Soundness.{IsSound};
+ghost use Rattle.sql_grammar.specs.Faults.{terminals};
+ghost use Rattle.sql_grammar.specs.work.Faults.{IsWhole};
+ghost use Rattle.ddl_reader.specs.work.Statements.{opens_ddl, begins_ddl, begins_index, IsMeaning, IsDdlRefusal};
+ghost use Rattle.ddl_reader.specs.work.Readings.{reading, ReadsAs, IsSyntaxRefusal, AreOfCopy, IfCopy, IsLastEnd};
+ghost use Rattle.ddl_reader.specs.work.Soundness.{IsSound};
 
 use crate::analysis::analysis;
 use crate::copy::copy;

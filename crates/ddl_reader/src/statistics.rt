@@ -8,9 +8,9 @@ ghost use Rattle.sql_grammar.specs.Terminals.{token_of, t_number};
 ghost use Rattle.sql_grammar.specs.Faults.{bytes_of};
 ghost use Rattle.catalog.specs.Contents.{IsTable, IsColumn, table_at};
 ghost use Rattle.catalog.specs.Indexes.{type_at};
-ghost use Rattle.ddl_reader.specs.AsMeant.{Tells, SpellsSizes, SpellsColumn, common_seen, starts_seen, value_seen, start_seen, SpellsSizesPart, SpellsLists, SpellsColumnPart};
-ghost use Rattle.ddl_reader.specs.Readings.{statistics_read, IsMadeAs, ReadsLists, ReadsColumnPart, ReadsSizesPart, ReadsSizes, ReadsColumnStatistics};
-ghost use Rattle.ddl_reader.specs.Statistics.{table_spelled, column_spelled};
+ghost use Rattle.ddl_reader.specs.work.AsMeant.{Tells, SpellsSizes, SpellsColumn, common_seen, starts_seen, value_seen, start_seen, SpellsSizesPart, SpellsLists, SpellsColumnPart};
+ghost use Rattle.ddl_reader.specs.work.Readings.{statistics_read, IsMadeAs, ReadsLists, ReadsColumnPart, ReadsSizesPart, ReadsSizes, ReadsColumnStatistics};
+ghost use Rattle.ddl_reader.specs.work.Statistics.{table_spelled, column_spelled};
 
 use crate::ddl::{Ddl, Read};
 use crate::literals::{CommonRead, common, histogram};

@@ -7,9 +7,9 @@ ghost use Rattle.pg_base.specs.declared.faults.Refusal.TheVariants as refusal;
 ghost use Rattle.pg_base.specs.declared.limits.TheConstants.{MOST_COLUMNS};
 ghost use Rattle.sql_grammar.specs.Faults.{fault_at};
 ghost use Rattle.ddl_reader.specs.declared.columns.ColumnDef.{ColumnDef};
-ghost use Rattle.ddl_reader.specs.AsMeant.{seen, SpellsTable};
+ghost use Rattle.ddl_reader.specs.work.AsMeant.{seen, SpellsTable};
 ghost use Rattle.ddl_reader.specs.Tables.{table_reading};
-ghost use Rattle.ddl_reader.specs.Readings.{IsMadeAs, ReadsTable};
+ghost use Rattle.ddl_reader.specs.work.Readings.{IsMadeAs, ReadsTable};
 
 use crate::columns::{ColumnDef, columns};
 use crate::ddl::{Ddl, Read};

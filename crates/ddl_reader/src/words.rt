@@ -4,7 +4,7 @@ ghost use Rattle.std.specs.Prelude.{◌≡◌, List, ◌∷◌, IfOk};
 ghost use Rattle.pg_base.specs.declared.faults.Refusal.TheVariants as refusal;
 ghost use Rattle.sql_grammar.specs.Terminals.{Terminal, Ident, Said, t_name, t_number, t_quoted};
 ghost use Rattle.sql_grammar.specs.Faults.{fault_at as fault_at_token};
-ghost use Rattle.expr_reader.specs.Reading.{BeginsName, BeginsNumber, BeginsQuoted};
+ghost use Rattle.expr_reader.specs.work.Reading.{BeginsName, BeginsNumber, BeginsQuoted};
 
 use expr_reader::{Cursor, Number, Spelled};
 use pg_base::{Code, Memory, Refusal};

@@ -14,12 +14,12 @@ use Rattle.plan_tree.specs.Plans.{Plan, seq, index, index_only, bitmap, sort, ne
 use Rattle.plan_tree.specs.Space.{IsEmpty, IsFinished, IsSameSet, MeetsOrder}
 use Rattle.plan_check.specs.plan_laws_WithinLemmas.{built-within}
 use Rattle.plan_check.specs.Certificates.{Certificate, Entry, Side, finish_at, plan_at, plans_of, sorted_if, unfold_at}
-use Rattle.plan_check.specs.Views.{entry}
+use Rattle.plan_check.specs.work.Views.{entry}
 use Rattle.plan_check.specs.declared.entry.Entry.{Entry as Entered}
-use Rattle.plan_check.specs.Beating.{IsRight}
+use Rattle.plan_check.specs.work.Beating.{IsRight}
 use Rattle.plan_check.specs.Reasons.{AllRight, AreRight, HasBest, IsBadBest}
 use Rattle.plan_check.specs.Verdicts.{AreWhole}
-use Rattle.entry_check.specs.Owning.{HasPlanAt, IsFinishedSide, plans_before}
+use Rattle.entry_check.specs.work.Owning.{HasPlanAt, IsFinishedSide, plans_before}
 use Rattle.entry_check.proofs.PlaceLemmas.{long}
 use Rattle.eq_classes.proofs.ClasswiseLemmas.{same_truth}
 

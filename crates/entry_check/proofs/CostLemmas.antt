@@ -3,23 +3,25 @@ use Rattle.std.proofs.Common.{◌≡◌, ◌-◌, ◌^◌, ◌&&◌, ℕ, false,
 use Rattle.pg_base.specs.Sets.{has}
 use Rattle.pg_base.specs.declared.rel_set.RelSet.{RelSet}
 use Rattle.catalog.specs.Contents.{Contents}
-use Rattle.cost_rules.specs.Costs.{IsEstimate, capped_pair, merge_cost, nest_cost, sort_cost}
+use Rattle.cost_rules.specs.Costs.{merge_cost, nest_cost, sort_cost}
+use Rattle.cost_rules.specs.work.Costs.{IsEstimate, capped_pair}
 use Rattle.cost_rules.specs.declared.pair.Pair.{Pair}
-use Rattle.pg_expr.specs.AtomSets.{contains}
+use Rattle.pg_expr.specs.work.AtomSets.{contains}
 use Rattle.eq_classes.specs.Clauses.{Set, ClassTable}
 use Rattle.eq_classes.specs.Listing.{clause_at}
 use Rattle.eq_classes.specs.Parts.{is_join}
 use Rattle.path_cost.specs.Costs.{operators}
-use Rattle.path_cost.specs.Estimates.{conditions_from, conditions_where, either_but, is_pair_of, pairs, set_rows}
+use Rattle.path_cost.specs.Estimates.{conditions_from, conditions_where, is_pair_of, pairs, set_rows}
+use Rattle.path_cost.specs.work.Estimates.{either_but}
 use Rattle.pathkeys.specs.Keys.{Keys}
 use Rattle.sql_query.specs.Queries.{Query}
 use Rattle.plan_tree.specs.Costs.{cost, estimate, join_operators, merge_operators, rows_given}
-use Rattle.plan_tree.specs.Paths.{kept_cost}
+use Rattle.plan_tree.specs.work.Paths.{kept_cost}
 use Rattle.plan_tree.specs.Plans.{Plan, joins, merge, nest, param_of, set_of, sort}
 use Rattle.plan_tree.specs.Space.{IsEmpty, IsSameSet}
 use Rattle.plan_tree.proofs.JoinLemmas.{join_operators_are, merge_costs, merge_operators_are, nest_costs}
 use Rattle.plan_tree.proofs.WindowLemmas.{merge-kept, nest-kept, sort-kept}
-use Rattle.entry_check.specs.Parts.{IsPart, IsReckoned}
+use Rattle.entry_check.specs.work.Parts.{IsPart, IsReckoned}
 use Rattle.entry_check.specs.declared.work_parts.Part.{Part}
 use Rattle.plan_tree.proofs.GivenLemmas.{given-none}
 use Rattle.plan_tree.proofs.SetLemmas.{sets-same}

@@ -17,8 +17,8 @@ use Rattle.plan_check.specs.declared.verdict.Number.{Number}
 use Rattle.plan_check.specs.declared.verdict.Reason.{Reason}
 use Rattle.plan_check.specs.declared.verdict.Reason.TheVariants as reasons
 use Rattle.plan_check.specs.declared.verdict.Number.TheVariants.{Startup, Total, Rows}
-use Rattle.entry_check.specs.Owning.{AreNumbersOf, HasNone, HasOwn, HasPlanAt, HasRight, IsOwn, plans_before}
-use Rattle.entry_check.specs.Telling.{IsFaultOf, IsFirstFault, IsOfEntries}
+use Rattle.entry_check.specs.work.Owning.{AreNumbersOf, HasNone, HasOwn, HasPlanAt, HasRight, IsOwn, plans_before}
+use Rattle.entry_check.specs.work.Telling.{IsFaultOf, IsFirstFault, IsOfEntries}
 use Rattle.entry_check.specs.declared.numbers.Own.{Own}
 use Rattle.entry_check.proofs.PlaceLemmas.{unfolds}
 

@@ -10,10 +10,10 @@ use Rattle.plan_tree.specs.Keys.{keys_of}
 use Rattle.plan_tree.specs.Plans.{Plan, merge, set_of}
 use Rattle.plan_tree.specs.Space.{IsSameSet}
 use Rattle.plan_check.specs.Certificates.{Entry, sorted_if}
-use Rattle.plan_check.specs.Beating.{IsRight, as_entry}
-use Rattle.plan_check.specs.Joining.{MayMerge}
+use Rattle.plan_check.specs.work.Beating.{IsRight, as_entry}
+use Rattle.plan_check.specs.work.Joining.{MayMerge}
 use Rattle.plan_check.proofs.MergeLemmas.{merge-built, side-set}
-use Rattle.entry_check.specs.Owning.{AreNumbersOf}
+use Rattle.entry_check.specs.work.Owning.{AreNumbersOf}
 use Rattle.entry_check.specs.declared.numbers.Own.{Own}
 
 module _ (c : Contents) (q : Query) (list : Keys) (a b : Entry) (sa sb : Bool) (o i : Plan) (ra : IsRight c q a o) (rb : IsRight c q b i) (set : RelSet) (all : (k : ℕ) → has set.0 k ≡ has a.set.0 k || has b.set.0 k) where

@@ -1,7 +1,8 @@
 -- Nested loops of right entries, in numbers.
 use Rattle.std.proofs.Common.{◌≡◌, ℕ, Bool, true, false, ◌||◌, refl, sym, ap₂, ◌∙◌}
 use Rattle.std.proofs.lemmas.Bool.{false≢true}
-use Rattle.pg_base.specs.Sets.{Meets, has}
+use Rattle.pg_base.specs.Sets.{has}
+use Rattle.pg_base.specs.work.Sets.{Meets}
 use Rattle.pg_base.proofs.SetLaws.{has-zero}
 use Rattle.pg_base.specs.declared.rel_set.RelSet.{RelSet}
 use Rattle.catalog.specs.Contents.{Contents}
@@ -11,10 +12,10 @@ use Rattle.pathkeys.specs.Keys.{Keys}
 use Rattle.plan_tree.specs.Plans.{Plan, nest, set_of}
 use Rattle.plan_tree.specs.Space.{IsSameSet}
 use Rattle.plan_check.specs.Certificates.{Entry}
-use Rattle.plan_check.specs.Beating.{IsRight, as_entry}
-use Rattle.plan_check.specs.Joining.{MayNest}
+use Rattle.plan_check.specs.work.Beating.{IsRight, as_entry}
+use Rattle.plan_check.specs.work.Joining.{MayNest}
 use Rattle.plan_check.proofs.NestLemmas.{nest-built}
-use Rattle.entry_check.specs.Owning.{AreNumbersOf}
+use Rattle.entry_check.specs.work.Owning.{AreNumbersOf}
 use Rattle.entry_check.specs.declared.numbers.Own.{Own}
 
 -- sets that share no member

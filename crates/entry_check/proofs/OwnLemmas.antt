@@ -13,9 +13,9 @@ use Rattle.plan_tree.specs.Space.{IsBuilt, IsMergeList}
 use Rattle.pathkeys.specs.Keys.{Keys}
 use Rattle.plan_check.specs.Certificates.{Entry, sorted_if}
 use Rattle.plan_check.specs.Tables.{HasItsPlan, IsStartup}
-use Rattle.plan_check.specs.Beating.{IsRight}
+use Rattle.plan_check.specs.work.Beating.{IsRight}
 use Rattle.plan_check.proofs.MergeLemmas.{built-merge}
-use Rattle.entry_check.specs.Owning.{IsOwn}
+use Rattle.entry_check.specs.work.Owning.{IsOwn}
 use Rattle.entry_check.specs.declared.numbers.Own.{Own}
 
 module _ (c : Contents) (q : Query) (e x : Entry) (p : Plan) where

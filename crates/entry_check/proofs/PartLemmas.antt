@@ -4,29 +4,32 @@ use Rattle.std.specs.Prelude.{Option, Some, None}
 use Rattle.pg_base.specs.Sets.{has}
 use Rattle.pg_base.specs.declared.rel_set.RelSet.{RelSet}
 use Rattle.catalog.specs.Contents.{Contents}
-use Rattle.cost_rules.specs.Costs.{IsEstimate, capped_pair, pair}
+use Rattle.cost_rules.specs.Costs.{pair}
+use Rattle.cost_rules.specs.work.Costs.{IsEstimate, capped_pair}
 use Rattle.cost_rules.specs.declared.pair.Pair.{Pair}
 use Rattle.cost_rules.specs.declared.parameters.TheConstants.{MOST_COST}
 use Rattle.sql_query.specs.Queries.{Query, width}
 use Rattle.sql_query.specs.declared.window.Window.{Window}
 use Rattle.path_cost.specs.Estimates.{set_rows}
 use Rattle.pathkeys.specs.Keys.{Keys}
-use Rattle.plan_tree.specs.Costs.{HaveRows, cost, estimate}
+use Rattle.plan_tree.specs.Costs.{cost, estimate}
+use Rattle.plan_tree.specs.work.Costs.{HaveRows}
 use Rattle.plan_tree.specs.Least.{IsAdmissible}
-use Rattle.plan_tree.specs.Paths.{kept_cost, startup_kept}
+use Rattle.plan_tree.specs.Paths.{startup_kept}
+use Rattle.plan_tree.specs.work.Paths.{kept_cost}
 use Rattle.plan_tree.specs.Plans.{Plan, param_of, set_of, sort}
 use Rattle.plan_tree.specs.Space.{IsEmpty, IsSameSet}
 use Rattle.plan_tree.proofs.BoundLemmas.{startup-most}
 use Rattle.plan_tree.proofs.PathLemmas.{built-below}
 use Rattle.plan_tree.proofs.WindowLemmas.{path-cost, uncut-kept}
 use Rattle.plan_tree.proofs.GivenLemmas.{read-below}
-use Rattle.entry_check.specs.Parts.{IsPart, IsReckoned}
+use Rattle.entry_check.specs.work.Parts.{IsPart, IsReckoned}
 use Rattle.entry_check.specs.declared.work_parts.Part.{Part}
 use Rattle.plan_check.specs.Certificates.{Entry, sorted_if}
 use Rattle.plan_check.specs.Tables.{IsStartup}
-use Rattle.plan_check.specs.Beating.{IsRight}
+use Rattle.plan_check.specs.work.Beating.{IsRight}
 use Rattle.plan_check.proofs.BeatingLemmas.{as_path, path-numbers}
-use Rattle.entry_check.specs.Owning.{AreNumbersOf}
+use Rattle.entry_check.specs.work.Owning.{AreNumbersOf}
 use Rattle.entry_check.specs.declared.numbers.Own.{Own}
 use Rattle.plan_tree.proofs.RowsLemmas.{plan-estimate}
 

@@ -7,12 +7,12 @@ use Rattle.std.proofs.lemmas.Option.{slice_get_past}
 use Rattle.catalog.specs.Contents.{Contents}
 use Rattle.sql_query.specs.Queries.{Query, width}
 use Rattle.plan_check.specs.Certificates.{Certificate, Entry, plan_at, plan_of, plans_of, unfold_at}
-use Rattle.plan_check.specs.Views.{entry}
+use Rattle.plan_check.specs.work.Views.{entry}
 use Rattle.plan_check.specs.declared.entry.Entry.{Entry as Entered}
 use Rattle.plan_check.proofs.UnfoldLemmas.{at-lower, at-split, goes-on, made-at}
 use Rattle.plan_check.proofs.PlaceLemmas.{read-at}
 use Rattle.plan_check.specs.Reasons.{AreRight}
-use Rattle.entry_check.specs.Owning.{HasPlanAt, plans_before}
+use Rattle.entry_check.specs.work.Owning.{HasPlanAt, plans_before}
 
 -- the entry that was read at a place, of a certificate
 pub read-there : (t : Certificate) (xs items : List Entered) (n : ℕ) (x : Entered) → t.entries ≡ map entry xs → items ≡ xs → n < length t.entries → x ≡ get_or items n x → slice_get t.entries n ≡ Some (entry x)

@@ -13,26 +13,27 @@ use Rattle.pg_base.specs.declared.limits.TheConstants.{MOST_COLUMNS}
 use Rattle.pg_base.specs.declared.numbers.RelNo.{RelNo}
 use Rattle.pg_base.specs.declared.rel_set.RelSet.{RelSet}
 use Rattle.catalog.specs.Contents.{Contents, IsIndex, IsLawful}
-use Rattle.cost_rules.specs.Costs.{capped_pair}
+use Rattle.cost_rules.specs.work.Costs.{capped_pair}
 use Rattle.cost_rules.specs.declared.pair.Pair.{Pair}
 use Rattle.eq_classes.specs.Clauses.{one}
 use Rattle.eq_classes.specs.declared.classes.ClassNo.{ClassNo}
 use Rattle.sql_query.specs.Queries.{Query}
 use Rattle.sql_query.specs.declared.window.Window.{Window}
 use Rattle.path_cost.specs.Estimates.{param_rows, set_rows}
-use Rattle.pathkeys.specs.Finding.{class_numbers}
+use Rattle.pathkeys.specs.work.Finding.{class_numbers}
 use Rattle.pathkeys.specs.Keys.{Keys, index_keys}
-use Rattle.plan_tree.specs.Costs.{HaveRows, cost, estimate, rows_given, scan_cost}
+use Rattle.plan_tree.specs.Costs.{cost, estimate, rows_given, scan_cost}
+use Rattle.plan_tree.specs.work.Costs.{HaveRows}
 use Rattle.plan_tree.specs.Least.{IsAdmissible}
 use Rattle.plan_tree.specs.Keys.{keys_of, scan_keys}
-use Rattle.plan_tree.specs.Paths.{kept_cost}
+use Rattle.plan_tree.specs.work.Paths.{kept_cost}
 use Rattle.plan_tree.specs.Plans.{Plan, index, index_only, is_empty, is_sort, param_in, param_of, scan_given, set_of}
 use Rattle.plan_tree.specs.Space.{IsBuilt, IsSameSet}
-use Rattle.plan_space.specs.Sorts.{sort_list}
+use Rattle.plan_space.specs.work.Sorts.{sort_list}
 use Rattle.plan_space.proofs.SortLemmas.{few-plain}
 use Rattle.plan_check.specs.Certificates.{Entry, relation_in}
 use Rattle.plan_check.specs.Tables.{HasItsPlan}
-use Rattle.entry_check.specs.Owning.{AreNumbersOf, HasNone, HasOwn, IsOwn, tree_of}
+use Rattle.entry_check.specs.work.Owning.{AreNumbersOf, HasNone, HasOwn, IsOwn, tree_of}
 use Rattle.entry_check.specs.declared.numbers.Own.{Own}
 use Rattle.entry_check.specs.declared.scans.ByIndex.{ByIndex}
 

@@ -7,7 +7,7 @@ use Rattle.pg_base.specs.Sets.{has}
 use Rattle.pg_base.proofs.SetLaws.{has-zero, none-zero, same_set}
 use Rattle.pg_base.specs.declared.numbers.RelNo.{RelNo}
 use Rattle.pg_base.specs.declared.rel_set.RelSet.{RelSet}
-use Rattle.pg_expr.specs.AtomSets.{contains}
+use Rattle.pg_expr.specs.work.AtomSets.{contains}
 use Rattle.eq_classes.specs.Clauses.{Clause, one}
 use Rattle.eq_classes.specs.Listing.{clause_at}
 use Rattle.eq_classes.specs.Parts.{is_join, is_join_param}

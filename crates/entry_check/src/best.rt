@@ -2,12 +2,13 @@
 
 ghost use Rattle.std.specs.Prelude.{◌≡◌, ◌≤◌, IfNone, IfSome, MatchOption, length, nat_lt};
 ghost use Rattle.pathkeys.specs.Keys as lists;
-ghost use Rattle.plan_tree.specs.Reads.{IsOverTables};
+ghost use Rattle.pathkeys.specs.work.Keys as lists_work;
+ghost use Rattle.plan_tree.specs.work.Reads.{IsOverTables};
 ghost use Rattle.sql_query.specs.Queries.{width};
-ghost use Rattle.plan_check.specs.Views.{certificate};
-ghost use Rattle.plan_check.specs.Placing.{ArePlaced};
+ghost use Rattle.plan_check.specs.work.Views.{certificate};
+ghost use Rattle.plan_check.specs.work.Placing.{ArePlaced};
 ghost use Rattle.plan_check.specs.Reasons.{AllRight, HasBest};
-ghost use Rattle.entry_check.specs.Telling.{HasSoundEntries, IsEntryOfSide, IsReasonOfEntries, IsUnfinishedSide, TellsOrdered, TellsWhole};
+ghost use Rattle.entry_check.specs.work.Telling.{HasSoundEntries, IsEntryOfSide, IsReasonOfEntries, IsUnfinishedSide, TellsOrdered, TellsWhole};
 
 use crate::entries::entry_before;
 use crate::judging::judge_entries;

@@ -1,10 +1,10 @@
 //! Nodes of entries over the entries before them.
 
 ghost use Rattle.std.specs.Prelude.{◌≡◌, ◌≤◌, IfNone, IfSome, None, length};
-ghost use Rattle.plan_tree.specs.Reads.{IsOverTables};
-ghost use Rattle.plan_check.specs.Views.{certificate};
+ghost use Rattle.plan_tree.specs.work.Reads.{IsOverTables};
+ghost use Rattle.plan_check.specs.work.Views.{certificate};
 ghost use Rattle.plan_check.specs.Reasons.{AreRight};
-ghost use Rattle.entry_check.specs.Making.{FindsOwn, HasPlanBefore, made_at, made_bitmap, made_index, made_index_only, made_merge, made_nest, made_seq, plan_before};
+ghost use Rattle.entry_check.specs.work.Making.{FindsOwn, HasPlanBefore, made_at, made_bitmap, made_index, made_index_only, made_merge, made_nest, made_seq, plan_before};
 
 use crate::joins::{Merging, own_merge, own_nest};
 use crate::numbers::Own;

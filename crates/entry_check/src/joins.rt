@@ -1,11 +1,11 @@
 //! Joins that entries say they are.
 
 ghost use Rattle.std.specs.Prelude.{◌≡◌, ◌↔◌, IfNone, IfSome, IsTrue};
-ghost use Rattle.pathkeys.specs.Finding.{class_numbers};
-ghost use Rattle.plan_tree.specs.Reads.{IsOverTables};
-ghost use Rattle.plan_check.specs.Views.{entry};
-ghost use Rattle.entry_check.specs.Owning.{HasRight};
-ghost use Rattle.entry_check.specs.Making.{HasCandidate, HasNoMerge, HasNoNest, HasOther, HasOwnMerge, HasOwnNest};
+ghost use Rattle.pathkeys.specs.work.Finding.{class_numbers};
+ghost use Rattle.plan_tree.specs.work.Reads.{IsOverTables};
+ghost use Rattle.plan_check.specs.work.Views.{entry};
+ghost use Rattle.entry_check.specs.work.Owning.{HasRight};
+ghost use Rattle.entry_check.specs.work.Making.{HasCandidate, HasNoMerge, HasNoNest, HasOther, HasOwnMerge, HasOwnNest};
 
 use crate::merges::merge_of;
 use crate::nests::nest_of;

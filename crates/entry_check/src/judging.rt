@@ -1,12 +1,12 @@
 //! The reason for which an entry is not right.
 
 ghost use Rattle.std.specs.Prelude.{◌≡◌, ◌≢◌, ◌+◌, ◌<◌, IfNone, IfSome, Some, false, length, true};
-ghost use Rattle.plan_tree.specs.Reads.{IsOverTables};
+ghost use Rattle.plan_tree.specs.work.Reads.{IsOverTables};
 ghost use Rattle.sql_query.specs.declared.window.Window.{Window as Asked};
 ghost use Rattle.plan_check.specs.Tables.{IsStartup};
-ghost use Rattle.plan_check.specs.Views.{certificate};
+ghost use Rattle.plan_check.specs.work.Views.{certificate};
 ghost use Rattle.plan_check.specs.Reasons.{AreRight};
-ghost use Rattle.entry_check.specs.Telling.{DiffersBy, IsFaultOf, JudgesEntries, SaysNumbers};
+ghost use Rattle.entry_check.specs.work.Telling.{DiffersBy, IsFaultOf, JudgesEntries, SaysNumbers};
 
 use crate::entries::own_at;
 use crate::numbers::Own;

@@ -1,15 +1,15 @@
 //! Merges of right entries, as they stand or sorted, in numbers.
 
 ghost use Rattle.std.specs.Prelude.{◌≡◌, ◌≤◌, ◌↔◌, IfNone, IfSome, IsTrue, cond, length};
-ghost use Rattle.cost_rules.specs.Costs.{IsEstimate};
-ghost use Rattle.entry_check.specs.Parts.{IsMergeCost, IsReckoned};
-ghost use Rattle.pathkeys.specs.Finding.{class_numbers};
-ghost use Rattle.plan_tree.specs.Reads.{IsOverTables};
-ghost use Rattle.plan_check.specs.Views.{entry};
-ghost use Rattle.entry_check.specs.Owning.{HasRight};
-ghost use Rattle.entry_check.specs.Working.{IsMergeWork};
-ghost use Rattle.entry_check.specs.Making.{HaveNoMerge, IsMergeOf};
-ghost use Rattle.entry_check.specs.Telling.{HasList, IsMergeListOf, TellsMayMerge};
+ghost use Rattle.cost_rules.specs.work.Costs.{IsEstimate};
+ghost use Rattle.entry_check.specs.work.Parts.{IsMergeCost, IsReckoned};
+ghost use Rattle.pathkeys.specs.work.Finding.{class_numbers};
+ghost use Rattle.plan_tree.specs.work.Reads.{IsOverTables};
+ghost use Rattle.plan_check.specs.work.Views.{entry};
+ghost use Rattle.entry_check.specs.work.Owning.{HasRight};
+ghost use Rattle.entry_check.specs.work.Working.{IsMergeWork};
+ghost use Rattle.entry_check.specs.work.Making.{HaveNoMerge, IsMergeOf};
+ghost use Rattle.entry_check.specs.work.Telling.{HasList, IsMergeListOf, TellsMayMerge};
 
 use crate::numbers::numbers_of;
 use crate::parts::side_of;

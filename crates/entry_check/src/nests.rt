@@ -2,14 +2,14 @@
 
 ghost use Rattle.std.specs.Prelude.{◌≡◌, ◌<◌, ◌↔◌, IfNone, IfSome, IsTrue, Some, slice_get};
 ghost use Rattle.catalog.specs.Contents.{Contents};
-ghost use Rattle.entry_check.specs.Parts.{IsJoinCost, IsReckoned};
+ghost use Rattle.entry_check.specs.work.Parts.{IsJoinCost, IsReckoned};
 ghost use Rattle.plan_tree.specs.Plans.{nest};
-ghost use Rattle.plan_tree.specs.Reads.{IsOverTables};
-ghost use Rattle.plan_check.specs.Views.{entry};
-ghost use Rattle.plan_check.specs.Joining.{MayNest};
-ghost use Rattle.entry_check.specs.Owning.{HasRight};
-ghost use Rattle.entry_check.specs.Working.{AreGiven, AreNestOperators, IsNestWork};
-ghost use Rattle.entry_check.specs.Making.{HaveNoNest, IsNestOf};
+ghost use Rattle.plan_tree.specs.work.Reads.{IsOverTables};
+ghost use Rattle.plan_check.specs.work.Views.{entry};
+ghost use Rattle.plan_check.specs.work.Joining.{MayNest};
+ghost use Rattle.entry_check.specs.work.Owning.{HasRight};
+ghost use Rattle.entry_check.specs.work.Working.{AreGiven, AreNestOperators, IsNestWork};
+ghost use Rattle.entry_check.specs.work.Making.{HaveNoNest, IsNestOf};
 
 use crate::numbers::numbers_of;
 use crate::parts::part_of;

@@ -1,7 +1,7 @@
 //! The numbers of plans, as entries have them.
 
 ghost use Rattle.std.specs.Prelude.{IfNone, IfSome};
-ghost use Rattle.entry_check.specs.Telling.{AreNumbersFrom, IsPastLimit};
+ghost use Rattle.entry_check.specs.work.Telling.{AreNumbersFrom, IsPastLimit};
 
 use cost_rules::{MOST_COST, Pair};
 use sql_query::Prepared;

@@ -2,7 +2,7 @@
 
 ghost use Rattle.std.specs.Prelude.{◌≡◌};
 ghost use Rattle.path_cost.specs.Costs.{operators};
-ghost use Rattle.entry_check.specs.Working.{AreClausesTested, AreNestOperators, merge_tests};
+ghost use Rattle.entry_check.specs.work.Working.{AreClausesTested, AreNestOperators, merge_tests};
 
 use eq_classes::{ClassNo, Classes, ClauseSet};
 use path_cost::{key_pairs, operators_of};

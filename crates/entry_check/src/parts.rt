@@ -2,11 +2,11 @@
 
 ghost use Rattle.std.specs.Prelude.{◌≡◌};
 ghost use Rattle.pg_base.specs.Sets.{has};
-ghost use Rattle.plan_tree.specs.Reads.{IsOverTables};
+ghost use Rattle.plan_tree.specs.work.Reads.{IsOverTables};
 ghost use Rattle.plan_tree.specs.Space.{IsEmpty};
-ghost use Rattle.entry_check.specs.Parts.{IsEntryPart, IsReckoned, IsSidePart};
-ghost use Rattle.plan_check.specs.Views.{entry};
-ghost use Rattle.entry_check.specs.Owning.{HasRight};
+ghost use Rattle.entry_check.specs.work.Parts.{IsEntryPart, IsReckoned, IsSidePart};
+ghost use Rattle.plan_check.specs.work.Views.{entry};
+ghost use Rattle.entry_check.specs.work.Owning.{HasRight};
 
 use crate::{Part, sorted};
 use catalog::Catalog;

@@ -2,11 +2,11 @@
 
 ghost use Rattle.std.specs.Prelude.{◌≡◌, ◌≤◌, length};
 ghost use Rattle.catalog.specs.Contents.{Contents};
-ghost use Rattle.cost_rules.specs.Costs.{IsCost};
-ghost use Rattle.pathkeys.specs.Finding.{class_numbers};
+ghost use Rattle.cost_rules.specs.work.Costs.{IsCost};
+ghost use Rattle.pathkeys.specs.work.Finding.{class_numbers};
 ghost use Rattle.plan_tree.specs.Plans.{merge, nest};
-ghost use Rattle.plan_tree.specs.Reads.{IsOverTables};
-ghost use Rattle.entry_check.specs.Parts.{IsJoinCost, IsReckoned, IsSortedPart};
+ghost use Rattle.plan_tree.specs.work.Reads.{IsOverTables};
+ghost use Rattle.entry_check.specs.work.Parts.{IsJoinCost, IsReckoned, IsSortedPart};
 
 use crate::operators::{merge_operators, nest_operators};
 use crate::work_parts::Part;

@@ -2,9 +2,10 @@
 
 ghost use Rattle.std.specs.Prelude.{◌≡◌};
 ghost use Rattle.pg_base.specs.Sets.{has};
-ghost use Rattle.cost_rules.specs.Costs.{IsEstimate};
+ghost use Rattle.cost_rules.specs.work.Costs.{IsEstimate};
 ghost use Rattle.path_cost.specs.Estimates as numbers;
-ghost use Rattle.plan_tree.specs.Reads.{IsOverTables};
+ghost use Rattle.path_cost.specs.work.Estimates as numbers_work;
+ghost use Rattle.plan_tree.specs.work.Reads.{IsOverTables};
 
 use catalog::Catalog;
 use cost_rules::Pair;

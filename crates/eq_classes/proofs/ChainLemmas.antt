@@ -16,7 +16,7 @@ use Rattle.eq_classes.specs.Equality.{Equality, equal_in, equality_in, equality_
 use Rattle.eq_classes.specs.Classes.{Premises, Linked, conjunct, constant, same, turned, chain}
 use Rattle.eq_classes.specs.Clauses.{Set}
 use Rattle.eq_classes.specs.Parts.{is_inside}
-use Rattle.eq_classes.specs.Holding.{Fits}
+use Rattle.eq_classes.specs.work.Holding.{Fits}
 use Rattle.eq_classes.proofs.ListLemmas.{IsIn, in_from_contains, all_at}
 use Rattle.eq_classes.proofs.EqualLemmas.{column_is, truth_equal, truth_self, equal_sym, equal_trans}
 use Rattle.eq_classes.proofs.SideLemmas.{equality_is, family_operator, left_fits, right_fits}

@@ -2,14 +2,14 @@
 use Rattle.std.proofs.Common.{◌≡◌, ℕ, Bool, true, false, inl, ⊎_elim, [], ◌∷◌, map, filter, Option, Some, None, refl, sym, ap, ◌∙◌}
 use Rattle.std.proofs.lemmas.Bool.{cases_Bool, and_from, true≢false, eq-eqb}
 use Rattle.opfamily.specs.pg_value_value_Value.{Value}
-use Rattle.opfamily.specs.pg_value_Order.{IsOfFamily}
+use Rattle.opfamily.specs.pg_value_work_Order.{IsOfFamily}
 use Rattle.opfamily.specs.pg_value_Truths.{is_true}
 use Rattle.pg_expr.specs.declared.operand.ColRef.{ColRef}
 use Rattle.pg_expr.specs.Truths.{truth_at}
 use Rattle.eq_classes.specs.Equality.{are_equal, is_column}
 use Rattle.eq_classes.specs.Classes.{Class}
 use Rattle.eq_classes.specs.Clauses.{Clause, clause, by_class, first_in, one, is_same, is_first, equals, equals_constant, constant_clauses, inner_clause, inner_clauses, pair_clause, pair_clauses}
-use Rattle.eq_classes.specs.Holding.{hold}
+use Rattle.eq_classes.specs.work.Holding.{hold}
 use Rattle.eq_classes.proofs.ListLemmas.{IsIn, Before, earlier_in, later_in, found_in, in_filter, before_filter, filter_before}
 use Rattle.eq_classes.proofs.HoldLemmas.{in_map, map_in, in_flat_map, flat_map_in, in_each_pair, each_pair_in, hold_at, hold_from}
 use Rattle.eq_classes.proofs.EqualLemmas.{column_is, truth_equal}

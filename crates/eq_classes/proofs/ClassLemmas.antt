@@ -8,7 +8,7 @@ use Rattle.eq_classes.specs.Equality.{are_equal, is_column}
 use Rattle.eq_classes.specs.Classes.{Class}
 use Rattle.eq_classes.specs.Clauses.{Set, Clause, first_in, one, inner_clauses, pair_clause, pair_clauses}
 use Rattle.eq_classes.specs.Parts.{union, has_in, is_relation_of, is_lowest, are_lowest, is_all}
-use Rattle.eq_classes.specs.Holding.{hold}
+use Rattle.eq_classes.specs.work.Holding.{hold}
 use Rattle.eq_classes.proofs.ListLemmas.{IsIn, Before, earlier_in, later_in, either_before, some_same, found_in, found_passes, found_first, found_before, found_narrower, any_from, any_at}
 use Rattle.eq_classes.proofs.EqualLemmas.{column_is, equal_sym, equal_trans}
 use Rattle.eq_classes.proofs.ClassHoldLemmas.{IsSound, column_self, pairs_hold, pairs_from, inner_hold, inner_from}

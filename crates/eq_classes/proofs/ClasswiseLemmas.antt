@@ -8,7 +8,7 @@ use Rattle.eq_classes.specs.Equality.{are_equal, is_column}
 use Rattle.eq_classes.specs.Classes.{Class}
 use Rattle.eq_classes.specs.Clauses.{Set, Clause, one, constant_clauses, inner_clauses, pair_clause, pair_clauses, has_constant, class_clauses}
 use Rattle.eq_classes.specs.Parts.{union, has_in, are_lowest, is_all, is_join, is_param, is_join_param}
-use Rattle.eq_classes.specs.Holding.{hold}
+use Rattle.eq_classes.specs.work.Holding.{hold}
 use Rattle.eq_classes.proofs.HoldLemmas.{hold-append}
 use Rattle.eq_classes.proofs.EqualLemmas.{column_is, equal_sym, equal_trans}
 use Rattle.eq_classes.proofs.ClassHoldLemmas.{IsSound, inner_from, constants_hold, constants_from}

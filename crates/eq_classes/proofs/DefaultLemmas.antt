@@ -5,7 +5,7 @@ use Rattle.opfamily.specs.pg_value_operators_Family.{Family}
 use Rattle.opfamily.specs.pg_value_operators_Family_TheVariants as families
 use Rattle.opfamily.specs.pg_value_value_SqlType.{SqlType}
 use Rattle.opfamily.specs.pg_value_value_SqlType_TheVariants.{Int2, Int4, Int8, Text as TextType, Bool as BoolType}
-use Rattle.opfamily.specs.pg_value_Order.{IsOfFamily}
+use Rattle.opfamily.specs.pg_value_work_Order.{IsOfFamily}
 use Rattle.opfamily.specs.Answers.{default_family_of, accepted, family_of, takes}
 use Rattle.pg_expr.specs.Typed.{some_value}
 use Rattle.std.specs.List.{list_all}

@@ -14,7 +14,8 @@ use Rattle.pg_expr.specs.Pushed.{is_lower}
 use Rattle.eq_classes.specs.Equality.{Equality, equality_in, is_column, is_other, are_equal}
 use Rattle.eq_classes.specs.Classes.{Premises, Linked, Class, is_family, has_member, Mention, mentions, first_mention, literals, distinct, IsClass, AreClasses}
 use Rattle.eq_classes.specs.Clauses.{Clause, clause, by_class, one, first_in, is_same, is_first, equals, equals_constant, each_pair, conjunct_clauses, constant_clauses, inner_clause, inner_clauses, pair_clause, pair_clauses, has_constant, class_clauses, clauses_from, clause_list}
-use Rattle.eq_classes.specs.Grouping.{Part, has_side, operand_columns, literals_in, started, united, touches, gathered, added, grouped}
+use Rattle.eq_classes.specs.Grouping.{operand_columns}
+use Rattle.eq_classes.specs.work.Grouping.{Part, has_side, literals_in, started, united, touches, gathered, added, grouped}
 use Rattle.eq_classes.proofs.ListLemmas.{IsIn, Before, earlier_in, later_in, in_filter, filter_in, before_filter, in_from_contains, all_at, pairs_at, any_from, any_at}
 use Rattle.eq_classes.proofs.EqualLemmas.{column_is, equal_sym, equal_trans, equal_self, family_is, family_self}
 use Rattle.eq_classes.proofs.ClassHoldLemmas.{same_is, column_self}

@@ -6,7 +6,7 @@ use Rattle.opfamily.specs.pg_value_Truths.{is_true}
 use Rattle.pg_expr.specs.declared.operand.ColRef.{ColRef}
 use Rattle.pg_expr.specs.Truths.{truth_at}
 use Rattle.eq_classes.specs.Clauses.{Clause, each_pair}
-use Rattle.eq_classes.specs.Holding.{hold}
+use Rattle.eq_classes.specs.work.Holding.{hold}
 use Rattle.eq_classes.proofs.ListLemmas.{IsIn, Before, in_left, in_right, in_parts}
 use Rattle.opfamily.proofs.TableLemmas.{implied}
 

@@ -5,14 +5,15 @@ use Rattle.opfamily.specs.pg_value_value_SqlType.{SqlType}
 use Rattle.pg_expr.specs.declared.operand.ColRef.{ColRef}
 use Rattle.pg_expr.specs.declared.expr.Expr.{Expr}
 use Rattle.pg_expr.specs.Cond.{Cond}
-use Rattle.pg_expr.specs.Columns.{each_column_of, rels_below}
-use Rattle.pg_expr.specs.View as view
+use Rattle.pg_expr.specs.Columns.{each_column_of}
+use Rattle.pg_expr.specs.work.Columns.{rels_below}
+use Rattle.pg_expr.specs.work.View as view
 use Rattle.eq_classes.specs.declared.order.OrderItem.{OrderItem}
 use Rattle.eq_classes.specs.declared.clauses.Listed.{Listed}
 use Rattle.eq_classes.specs.Classes.{Class, AreClasses}
 use Rattle.eq_classes.specs.Clauses.{Clause, conjunct_clauses, clauses_from, clause_list}
-use Rattle.eq_classes.specs.Building.{given}
-use Rattle.eq_classes.specs.Listing.{clause_of, clauses_of}
+use Rattle.eq_classes.specs.work.Building.{given}
+use Rattle.eq_classes.specs.work.Listing.{clause_of, clauses_of}
 use Rattle.eq_classes.proofs.ListLemmas.{IsIn, all_at, all_from}
 use Rattle.eq_classes.proofs.HoldLemmas.{map_in}
 use Rattle.eq_classes.proofs.SearchLemmas.{same_length}

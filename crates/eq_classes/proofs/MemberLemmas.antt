@@ -8,7 +8,7 @@ use Rattle.pg_expr.specs.declared.operand.ColRef.{ColRef}
 use Rattle.pg_expr.specs.Pushed.{is_lower}
 use Rattle.eq_classes.specs.Equality.{is_column, are_equal}
 use Rattle.eq_classes.specs.Classes.{distinct}
-use Rattle.eq_classes.specs.Building.{inserted, arranged, noted}
+use Rattle.eq_classes.specs.work.Building.{inserted, arranged, noted}
 use Rattle.eq_classes.proofs.ListLemmas.{IsIn, Before, any_from, any_at, pairs_all}
 use Rattle.eq_classes.proofs.EqualLemmas.{column_is, equal_sym, equal_trans}
 use Rattle.eq_classes.proofs.ClasswiseLemmas.{same_truth}

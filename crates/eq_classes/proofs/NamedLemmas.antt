@@ -2,7 +2,8 @@
 use Rattle.std.proofs.Common.{◌≡◌, ◌↔◌, ℕ, zero, suc, ◌+◌, ◌<◌, ◌≤◌, ◌^◌, Bool, true, false, not, ◌&&◌, ◌||◌, ◌⊎◌, inl, inr, ⊎_elim, nat_eq, nat_lt, List, [], ◌∷◌, ◌++◌, length, drop, get_or, slice_index_or, AllPairs, IfSome, IfNone, Option, Some, None, refl, sym, ap, ◌∙◌, subst, arith}
 use Rattle.std.specs.List.{list_any}
 use Rattle.std.proofs.lemmas.Bool.{cases_Bool, cases_lt, and_parts, and_from, or_cases, or_left, or_right, true≢false, eq-eqb, eqb-true}
-use Rattle.opfamily.specs.pg_base_Sets.{has, Meets}
+use Rattle.opfamily.specs.pg_base_Sets.{has}
+use Rattle.opfamily.specs.pg_base_work_Sets.{Meets}
 use Rattle.opfamily.specs.pg_base_rel_set_RelSet.{RelSet}
 use Rattle.opfamily.specs.pg_base_numbers_RelNo.{RelNo}
 use Rattle.opfamily.specs.pg_base_SetLaws.{has-below}
@@ -12,14 +13,16 @@ use Rattle.pg_expr.specs.declared.operand.Operand.TheVariants.{Col, Lit}
 use Rattle.pg_expr.specs.Cond.{Cond, compare, is_null, is_not_null, bool_col, const, all_of, any_of, negation, Conds, no_conds, cond_and}
 use Rattle.pg_expr.specs.Columns.{names_column, some_column, some_column_of, each_column, names_rel}
 use Rattle.pg_expr.specs.Pushed.{is_lower}
-use Rattle.pg_expr.specs.View as view
+use Rattle.pg_expr.specs.work.View as view
 use Rattle.pg_expr.proofs.ColumnLaws.{inside-each}
 use Rattle.eq_classes.specs.declared.clauses.Listed.{Listed}
 use Rattle.eq_classes.specs.Classes.{Class}
 use Rattle.eq_classes.specs.Clauses.{Set, first_in}
-use Rattle.eq_classes.specs.Parts.{has_column, is_inside, names_some, has_in, is_relation_of, is_lowest, is_number}
-use Rattle.eq_classes.specs.Building.{IsMasked}
-use Rattle.eq_classes.specs.Listing.{AreNamed, clauses_of, clause_at}
+use Rattle.eq_classes.specs.Parts.{has_column, is_inside, names_some, has_in, is_relation_of, is_lowest}
+use Rattle.eq_classes.specs.work.Parts.{is_number}
+use Rattle.eq_classes.specs.work.Building.{IsMasked}
+use Rattle.eq_classes.specs.Listing.{clause_at}
+use Rattle.eq_classes.specs.work.Listing.{AreNamed, clauses_of}
 use Rattle.eq_classes.proofs.ListLemmas.{IsIn, Before, found_in, found_passes, found_before, any_from, any_at, pairs_at}
 use Rattle.eq_classes.proofs.ClassLemmas.{some_first, first_inside, first_member}
 use Rattle.eq_classes.proofs.ClasswiseLemmas.{same_truth}

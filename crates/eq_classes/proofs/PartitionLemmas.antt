@@ -12,7 +12,8 @@ use Rattle.pg_expr.specs.declared.operand.Operand.TheVariants.{Col, Lit}
 use Rattle.pg_expr.specs.Cond.{Cond}
 use Rattle.eq_classes.specs.Equality.{Equality, equal_in, equality_in, is_column, is_other, are_equal}
 use Rattle.eq_classes.specs.Classes.{Premises, Linked, conjunct, constant, same, turned, chain, is_family}
-use Rattle.eq_classes.specs.Grouping.{Part, has_side, operand_columns, literals_in, started, united, touches, gathered, added, grouped}
+use Rattle.eq_classes.specs.Grouping.{operand_columns}
+use Rattle.eq_classes.specs.work.Grouping.{Part, has_side, literals_in, started, united, touches, gathered, added, grouped}
 use Rattle.eq_classes.proofs.ListLemmas.{IsIn, Before, in_left, in_right, in_parts, in_filter, filter_in, before_filter, either_before, contains_from_in, in_from_contains, any_from, any_at}
 use Rattle.eq_classes.proofs.EqualLemmas.{column_is, family_is, family_self, equal_sym, equal_trans}
 use Rattle.eq_classes.proofs.ClassHoldLemmas.{column_self}

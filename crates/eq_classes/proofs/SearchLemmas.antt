@@ -4,16 +4,16 @@ use Rattle.std.specs.List.{cons_option}
 use Rattle.opfamily.specs.pg_value_operators_Family.{Family}
 use Rattle.opfamily.specs.pg_value_value_SqlType.{SqlType}
 use Rattle.opfamily.specs.pg_value_value_Value.{Value}
-use Rattle.opfamily.specs.pg_value_Order.{IsOfFamily}
+use Rattle.opfamily.specs.pg_value_work_Order.{IsOfFamily}
 use Rattle.pg_expr.specs.declared.operand.ColRef.{ColRef}
 use Rattle.eq_classes.specs.Classes.{Class, is_family, has_member, is_in, left_of, in_family, is_some_and}
-use Rattle.eq_classes.specs.Building.{noted, noted_option, left_by}
+use Rattle.eq_classes.specs.work.Building.{noted, noted_option, left_by}
 use Rattle.eq_classes.specs.Equality.{Equality, equality_in, as_clause}
 use Rattle.pg_expr.specs.Cond.{Cond}
 use Rattle.pg_expr.specs.declared.expr.Expr.{Expr}
-use Rattle.pg_expr.specs.View as view
+use Rattle.pg_expr.specs.work.View as view
 use Rattle.eq_classes.specs.Clauses.{Clause, clause, by_conjunct, conjunct_clauses}
-use Rattle.eq_classes.specs.Listing.{conjunct_at}
+use Rattle.eq_classes.specs.work.Listing.{conjunct_at}
 use Rattle.eq_classes.proofs.EqualLemmas.{family_is}
 
 pub fits_other : (f g : Family) (v : Value) → is_family f g ≡ true → IsOfFamily g v → IsOfFamily f v

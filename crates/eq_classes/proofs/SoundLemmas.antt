@@ -5,7 +5,7 @@ use Rattle.std.proofs.lemmas.Bool.{cases_Bool, and_parts, or_cases, ltb-true}
 use Rattle.std.proofs.lemmas.Option.{same_Some}
 use Rattle.opfamily.specs.pg_value_operators_Family.{Family}
 use Rattle.opfamily.specs.pg_value_value_Value.{Value}
-use Rattle.opfamily.specs.pg_value_Order.{IsOfFamily}
+use Rattle.opfamily.specs.pg_value_work_Order.{IsOfFamily}
 use Rattle.pg_expr.specs.declared.operand.ColRef.{ColRef}
 use Rattle.pg_expr.specs.declared.operand.Operand.{Operand}
 use Rattle.pg_expr.specs.declared.operand.Operand.TheVariants.{Col, Lit}
@@ -17,7 +17,7 @@ use Rattle.opfamily.specs.Answers.{default_family_of}
 use Rattle.eq_classes.specs.declared.order.OrderItem.{OrderItem}
 use Rattle.eq_classes.specs.Equality.{Equality, equal_in, equality_in, is_column, are_equal}
 use Rattle.eq_classes.specs.Classes.{Premises, Linked, conjunct, constant, same, turned, chain, Class, is_family, has_member, Mention, is_in, left_of, in_family, ordered_by, mentions, first_mention, literal_of, literal_in, literals, distinct, IsClass, AreClasses}
-use Rattle.eq_classes.specs.Holding.{Fits}
+use Rattle.eq_classes.specs.work.Holding.{Fits}
 use Rattle.eq_classes.proofs.ListLemmas.{IsIn, Before, in_parts, in_filter, in_filter_map, in_from_contains, all_at, pairs_at, any_from, any_at}
 use Rattle.eq_classes.proofs.EqualLemmas.{column_is, family_is}
 use Rattle.eq_classes.proofs.SideLemmas.{left_fits, right_fits, ordered_fits}

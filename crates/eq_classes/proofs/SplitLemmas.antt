@@ -13,7 +13,7 @@ use Rattle.eq_classes.specs.Equality.{equality_in, as_clause}
 use Rattle.eq_classes.specs.Classes.{Class}
 use Rattle.eq_classes.specs.Clauses.{Set, one, by_conjunct, Clause, clause, conjunct_clauses, class_clauses, clauses_from, clause_list}
 use Rattle.eq_classes.specs.Parts.{union, is_inside, names_some, is_all, is_join, is_param, is_join_param}
-use Rattle.eq_classes.specs.Holding.{hold}
+use Rattle.eq_classes.specs.work.Holding.{hold}
 use Rattle.eq_classes.proofs.ListLemmas.{IsIn}
 use Rattle.eq_classes.proofs.HoldLemmas.{hold-append}
 use Rattle.eq_classes.proofs.ClassHoldLemmas.{IsSound}

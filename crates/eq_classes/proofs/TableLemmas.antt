@@ -11,7 +11,8 @@ use Rattle.pg_expr.specs.Typed.{IsTyped}
 use Rattle.eq_classes.specs.Classes.{Premises, Class, IsClass, conjuncts_in}
 use Rattle.eq_classes.specs.Clauses.{Set, one, first_in, Clause, clauses_from, conjunct_clauses, clause_list, ClassTable}
 use Rattle.eq_classes.specs.Parts.{union, is_inside, is_all, is_base, is_join, is_param, is_join_param}
-use Rattle.eq_classes.specs.Holding.{hold, Fits, IsClassTable, AreApart, IsWithin, AgreeOn, HasClass}
+use Rattle.eq_classes.specs.Holding.{IsClassTable, AreApart, IsWithin}
+use Rattle.eq_classes.specs.work.Holding.{hold, Fits, AgreeOn, HasClass}
 use Rattle.eq_classes.proofs.ListLemmas.{IsIn, in_from_contains, all_at}
 use Rattle.eq_classes.proofs.HoldLemmas.{hold-append}
 use Rattle.eq_classes.proofs.ClassHoldLemmas.{IsSound}

@@ -8,7 +8,7 @@ use Rattle.opfamily.specs.pg_value_value_SqlType.{SqlType}
 use Rattle.opfamily.specs.pg_value_value_SqlType_TheVariants.{Int2, Int4, Int8, Text as TextType, Bool as BoolType}
 use Rattle.opfamily.specs.pg_value_value_Value.{Value}
 use Rattle.opfamily.specs.pg_value_value_Value_TheVariants.{Null, Int, Bool as Flag, Text as String}
-use Rattle.opfamily.specs.pg_value_Order.{IsOfFamily}
+use Rattle.opfamily.specs.pg_value_work_Order.{IsOfFamily}
 use Rattle.opfamily.specs.pg_value_Truths.{AreComparable}
 use Rattle.opfamily.specs.pg_value_Types.{IsOfType}
 use Rattle.pg_expr.specs.declared.operand.ColRef.{ColRef}
@@ -20,7 +20,7 @@ use Rattle.pg_expr.specs.Typed.{IsTyped, some_value}
 use Rattle.eq_classes.specs.Equality.{equality_family, equality_of, is_column, as_clause}
 use Rattle.eq_classes.specs.Classes.{Premises, Class, AreClasses}
 use Rattle.eq_classes.specs.Clauses.{Clause, clause_list, equals, equals_constant}
-use Rattle.eq_classes.specs.Holding.{Fits}
+use Rattle.eq_classes.specs.work.Holding.{Fits}
 use Rattle.eq_classes.proofs.ListLemmas.{IsIn, all_at}
 use Rattle.eq_classes.proofs.ClassHoldLemmas.{IsSound}
 use Rattle.eq_classes.proofs.ColumnLemmas.{each_clause}

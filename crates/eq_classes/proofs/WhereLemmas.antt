@@ -19,7 +19,7 @@ use Rattle.eq_classes.specs.Equality.{Equality, equal_in, equality_in, is_column
 use Rattle.eq_classes.specs.Classes.{Premises, conjunct, Class, is_family, has_member, is_in, left_of, ordered_by, mentions, literal_of, literal_in, literals, distinct, IsClass, AreClasses}
 use Rattle.eq_classes.specs.Clauses.{Set, by_conjunct, Clause, clause, conjunct_clauses, has_constant, class_clauses, clauses_from, clause_list}
 use Rattle.eq_classes.specs.Parts.{has_column, is_inside, is_all}
-use Rattle.eq_classes.specs.Holding.{hold, Fits}
+use Rattle.eq_classes.specs.work.Holding.{hold, Fits}
 use Rattle.eq_classes.proofs.ListLemmas.{IsIn, in_left, filter_in, filter_map_in, contains_from_in, all_at, any_at}
 use Rattle.eq_classes.proofs.EqualLemmas.{order_self, equal_sym, equal_trans, family_is, family_self}
 use Rattle.eq_classes.proofs.HoldLemmas.{hold_at, hold-append}

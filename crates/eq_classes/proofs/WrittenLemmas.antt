@@ -20,7 +20,7 @@ use Rattle.pg_expr.proofs.KeptLaws.{pushed-atoms, pushed-typed, pushed-each, con
 use Rattle.eq_classes.specs.Classes.{listed, conjuncts_in}
 use Rattle.eq_classes.specs.Clauses.{Set}
 use Rattle.eq_classes.specs.Parts.{has_column, is_inside}
-use Rattle.eq_classes.specs.Holding.{Fits}
+use Rattle.eq_classes.specs.work.Holding.{Fits}
 use Rattle.eq_classes.proofs.ListLemmas.{IsIn, all_at, all_from}
 use Rattle.eq_classes.proofs.HoldLemmas.{in_flat_map, flat_map_in}
 use Rattle.eq_classes.proofs.ClasswiseLemmas.{same_truth}

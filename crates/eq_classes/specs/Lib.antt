@@ -1,4 +1,3 @@
-pub mod Building
 pub mod Classes
 pub mod Clauses
 pub mod Equality
@@ -6,3 +5,4 @@ pub mod Grouping
 pub mod Holding
 pub mod Listing
 pub mod Parts
+pub mod work

@@ -1,15 +1,12 @@
 -- The parts of a clause list, each as a test of a clause.
 -- Source: PostgreSQL, src/backend/optimizer/README (restriction and join clauses, parameterized paths); the choice of pair clauses is own.
-use Rattle.std.specs.Prelude.{ℕ, suc, Bool, true, false, not, cond, ◌&&◌, ◌||◌, nat_eq, List, [], ◌∷◌, map, slice_get, Option, Some, None, ◌≡◌, drop}
-use Rattle.std.specs.List.{list_any, cons_option}
-use Rattle.opfamily.specs.pg_base_numbers_RelNo.{RelNo}
+use Rattle.std.specs.Prelude.{ℕ, suc, Bool, true, false, not, cond, ◌&&◌, ◌||◌, nat_eq, List, [], ◌∷◌, Option, Some, None}
+use Rattle.std.specs.List.{list_any}
 use Rattle.pg_expr.specs.declared.operand.ColRef.{ColRef}
 use Rattle.pg_expr.specs.Cond.{Cond}
 use Rattle.pg_expr.specs.Columns.{some_column, each_column, names_rel}
 use Rattle.eq_classes.specs.Classes.{Class}
 use Rattle.eq_classes.specs.Clauses.{Set, one, ClauseSource, by_conjunct, by_class, by_pair, Clause, first_in, has_constant}
-use Rattle.eq_classes.specs.declared.classes.ClassNo.{ClassNo}
-use Rattle.eq_classes.specs.Listing.{class_no}
 
 -- the relations of either of two sets: those of a join of them
 abbrev pub union : Set → Set → Set
@@ -31,10 +28,6 @@ names_some set e = some_column (λ x. set x.rel.0) e
 abbrev pub has_in : Class → Set → Bool
 has_in c set = list_any (λ x. set x.rel.0) c.members
 
--- a class has members in both of two sets
-abbrev pub spans : Class → Set → Set → Bool
-spans c a b = has_in c a && has_in c b
-
 -- a relation is the lowest one of a set in which a class has a member
 abbrev pub is_relation_of : Option ColRef → ℕ → Bool
 is_relation_of None r = false
@@ -43,11 +36,6 @@ is_relation_of (Some x) r = nat_eq x.rel.0 r
 -- a relation is the lowest of a set in which a class has a member, so that its pair clause stands for the set
 abbrev pub is_lowest : Class → Set → ℕ → Bool
 is_lowest c set r = is_relation_of (first_in c set) r
-
--- whether a relation that was found, if one was, has the number
-abbrev pub is_number : Option RelNo → ℕ → Bool
-is_number None r = false
-is_number (Some k) r = nat_eq k.0 r
 
 -- two relations are the lowest ones with members of the one set and of the other, either way round
 abbrev pub are_lowest : Class → Set → Set → ℕ → ℕ → Bool
@@ -89,10 +77,6 @@ is_left_out r p e (by_conjunct n) = is_param_from r p e (by_conjunct n)
 is_left_out r p e (by_class n c) = has_in c (one r) && has_in c p
 is_left_out r p e (by_pair n c l h) = has_in c (one r) && has_in c p
 
--- a clause that a join with a scan of r leaves out, since the scan tests it or its class
-abbrev pub is_spared : ℕ → Set → Clause → Bool
-is_spared r p k = is_left_out r p k.cond k.source
-
 -- a clause of Join(A, (r, P)): a join of A with a scan of r that is given rows of P tests it, and the scan has not
 abbrev pub is_join_param : Set → ℕ → Set → Clause → Bool
 is_join_param a r p k = is_join a (one r) k && not (is_left_out r p k.cond k.source)
@@ -116,16 +100,3 @@ is_joining a b c = not (has_constant c) && (has_in c a && has_in c b)
 abbrev pub joining_from : Set → Set → ℕ → List Class → List ℕ
 joining_from a b n [] = []
 joining_from a b n (c ∷ cs) = cond (is_joining a b c) (n ∷ joining_from a b (suc n) cs) (joining_from a b (suc n) cs)
-
--- the first four of a list of numbers
-abbrev pub first_four : List ℕ → List (Option ℕ)
-first_four ns = map (slice_get ns) (0 ∷ 1 ∷ 2 ∷ 3 ∷ [])
-
--- the first four joining classes of two sets, by number
-abbrev pub first_joining : Set → Set → List Class → List (Option ℕ)
-first_joining a b cs = first_four (joining_from a b 0 cs)
-
--- the joining classes from a number on are the one that was found, if one was, and those from the number beside it on
-abbrev pub GivesNextJoining : Set → Set → List Class → ℕ → Option ClassNo × ℕ → Type 0
-GivesNextJoining a b cs from found =
-    joining_from a b from (drop from cs) ≡ cons_option (class_no found.0) (joining_from a b found.1 (drop found.1 cs))

@@ -2,17 +2,19 @@
 
 ghost use Rattle.std.specs.Prelude.{◌≡◌, ◌<◌, ℕ, nat_eq, ◌||◌, AllPairs, filter, Some, [], ◌++◌, find, option_map, IfOk, OnOk, IsTrue, All, IfSome, length, ◌≤◌, ◌+◌, ◌&&◌};
 ghost use Rattle.std.specs.List.{list_any, prefix_len};
-ghost use Rattle.opfamily.specs.pg_value_Order.{IsOfFamily};
+ghost use Rattle.opfamily.specs.pg_value_work_Order.{IsOfFamily};
 ghost use Rattle.pg_expr.specs.Columns.{each_column};
 ghost use Rattle.pg_expr.specs.Pushed.{is_lower};
 ghost use Rattle.pg_expr.specs.Typed.{IsTyped, AreTyped};
-ghost use Rattle.pg_expr.specs.View as view;
+ghost use Rattle.pg_expr.specs.work.View as view;
 ghost use Rattle.eq_classes.specs.Equality.{is_column, are_equal};
 ghost use Rattle.eq_classes.specs.Classes.{is_in, in_family, orders_by};
 ghost use Rattle.opfamily.specs.pg_base_Sets.{has};
-ghost use Rattle.eq_classes.specs.Clauses.{has_constant, first_in, one, is_first, as_first};
-ghost use Rattle.eq_classes.specs.Parts.{has_in, is_lowest, is_number};
-ghost use Rattle.eq_classes.specs.Building.{IsMasked, inserted, arranged, is_group_of, members_of, over, noted, AreBoundBy, literal_by, with_value, with_lent, AreConstantsBy, order_direction, class_from, PlacesColumn, PlacesConjunct, PlacesItem, PlacesConjuncts, PlacesItems, AreClassesFrom};
+ghost use Rattle.eq_classes.specs.Clauses.{has_constant, first_in, one, is_first};
+ghost use Rattle.eq_classes.specs.work.Clauses.{as_first};
+ghost use Rattle.eq_classes.specs.Parts.{has_in, is_lowest};
+ghost use Rattle.eq_classes.specs.work.Parts.{is_number};
+ghost use Rattle.eq_classes.specs.work.Building.{IsMasked, inserted, arranged, is_group_of, members_of, over, noted, AreBoundBy, literal_by, with_value, with_lent, AreConstantsBy, order_direction, class_from, PlacesColumn, PlacesConjunct, PlacesItem, PlacesConjuncts, PlacesItems, AreClassesFrom};
 ghost use Rattle.std.specs.Option.{option_copied};
 
 use crate::equality::{equal_values, equality, same_column, same_family, stands_before};
@@ -52,7 +54,7 @@ impl Drop for EqClass {
 impl Model for EqClass {
     ghost use Rattle.std.specs.Prelude.{AllPairs, IsTrue};
     ghost use Rattle.pg_expr.specs.Pushed.{is_lower};
-    ghost use Rattle.eq_classes.specs.Building.{IsMasked};
+    ghost use Rattle.eq_classes.specs.work.Building.{IsMasked};
     ghost use Rattle.eq_classes.specs.Classes.{Class};
 
     ghost Value = { Class };

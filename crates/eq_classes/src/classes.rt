@@ -1,10 +1,10 @@
 //! The classes of a query with its numbered clause list.
 
 ghost use Rattle.std.specs.Prelude.{◌≡◌, ◌<◌, ◌≤◌, length, All, IfOk, IsTrue, not, ◌&&◌, ◌||◌};
-ghost use Rattle.pg_expr.specs.Columns.{rels_below};
-ghost use Rattle.pg_expr.specs.View as view;
-ghost use Rattle.eq_classes.specs.Listing.{AreNamed};
-ghost use Rattle.eq_classes.specs.Parts.{is_number, spans, is_spared, GivesNextJoining, first_joining};
+ghost use Rattle.pg_expr.specs.work.Columns.{rels_below};
+ghost use Rattle.pg_expr.specs.work.View as view;
+ghost use Rattle.eq_classes.specs.work.Listing.{AreNamed};
+ghost use Rattle.eq_classes.specs.work.Parts.{is_number, spans, is_spared, GivesNextJoining, first_joining};
 
 use crate::class::{EqClass, make_classes};
 use crate::clause_set::{ClauseSet, note};
@@ -41,9 +41,9 @@ impl Drop for Classes {
 impl Model for Classes {
     ghost use Rattle.std.specs.Prelude.{◌<◌, ◌≤◌, ◌^◌, length};
     ghost use Rattle.std.specs.Coded.{codes};
-    ghost use Rattle.pg_expr.specs.CondCode.{cond_code};
+    ghost use Rattle.pg_expr.specs.work.CondCode.{cond_code};
     ghost use Rattle.eq_classes.specs.Clauses.{ClassTable};
-    ghost use Rattle.eq_classes.specs.Listing.{table_of, AreNamed};
+    ghost use Rattle.eq_classes.specs.work.Listing.{table_of, AreNamed};
 
     ghost Value = { ClassTable };
 
@@ -61,9 +61,11 @@ impl Classes {
     ghost use Rattle.eq_classes.specs.Classes.{in_family, class_number, conjuncts_in};
     ghost use Rattle.eq_classes.specs.Clauses.{Set, one, first_in, has_constant};
     ghost use Rattle.eq_classes.specs.Parts as parts;
+    ghost use Rattle.eq_classes.specs.work.Parts as parts_work;
     ghost use Rattle.eq_classes.specs.Parts.{is_lowest, are_lowest, is_all, is_base, is_join, is_param, is_left_out, is_join_param};
-    ghost use Rattle.pg_expr.specs.AtomSets.{contains};
-    ghost use Rattle.eq_classes.specs.Listing.{class_no, selects, sort_direction, class_at, clause_at, clause_of, conjunct_of, pair_class_of};
+    ghost use Rattle.pg_expr.specs.work.AtomSets.{contains};
+    ghost use Rattle.eq_classes.specs.Listing.{class_at, clause_at, conjunct_of, pair_class_of};
+    ghost use Rattle.eq_classes.specs.work.Listing.{class_no, selects, sort_direction, clause_of};
     ghost use Rattle.opfamily.specs.pg_value_value_Value.{Value};
     ghost use Rattle.opfamily.specs.pg_value_Truths.{is_true};
     ghost use Rattle.pg_expr.specs.declared.operand.ColRef.{ColRef};
@@ -71,8 +73,8 @@ impl Classes {
     ghost use Rattle.pg_expr.specs.Columns.{each_column, names_rel};
     ghost use Rattle.pg_expr.specs.Truths.{truth_of_all};
     ghost use Rattle.pg_expr.specs.Typed.{IsTyped, AreTyped};
-    ghost use Rattle.eq_classes.specs.Building.{AreBoundBy, AreOfRelationsBelow};
-    ghost use Rattle.eq_classes.specs.Holding.{Fits, hold, IsTableFrom};
+    ghost use Rattle.eq_classes.specs.work.Building.{AreBoundBy, AreOfRelationsBelow};
+    ghost use Rattle.eq_classes.specs.work.Holding.{Fits, hold, IsTableFrom};
 
     /// The classes and clauses of conjuncts in pushed form, none of them an AND, and an ORDER BY. The conditions are
     /// that each conjunct is well typed, that each column is bound and of a relation below 16, and that there are at

@@ -1,7 +1,7 @@
 //! Sets of clauses. Contracts see their members.
 
 ghost use Rattle.std.specs.Prelude.{◌≡◌, ℕ, ◌<◌, ◌||◌, ◌&&◌, false, nat_eq};
-ghost use Rattle.pg_expr.specs.AtomSets.{contains};
+ghost use Rattle.pg_expr.specs.work.AtomSets.{contains};
 
 use std::marker::Model;
 

@@ -4,12 +4,14 @@ ghost use Rattle.std.specs.Prelude.{◌≡◌, ◌<◌, ◌+◌, ◌^◌, Some, 
 ghost use Rattle.pg_expr.specs.Columns.{each_column};
 ghost use Rattle.pg_expr.specs.Cond.{is_not_null};
 ghost use Rattle.pg_expr.specs.Typed.{IsTyped, AreTyped};
-ghost use Rattle.pg_expr.specs.View as view;
+ghost use Rattle.pg_expr.specs.work.View as view;
 ghost use Rattle.eq_classes.specs.Equality as specs_equality;
+ghost use Rattle.eq_classes.specs.work.Equality as specs_equality_work;
 ghost use Rattle.eq_classes.specs.Clauses.{clause, one, clauses_from};
-ghost use Rattle.eq_classes.specs.Listing.{class_at, Gains, own_clause, paired_at, column_constants, inner_clause_at, inner_of, inner_clauses_at, constant_clauses_at, class_clauses_at, coupled, pairings, GainsConjunct, GainsConjuncts};
-ghost use Rattle.eq_classes.specs.Equality.{listed_as};
-ghost use Rattle.eq_classes.specs.Building.{AreBoundBy};
+ghost use Rattle.eq_classes.specs.Listing.{class_at};
+ghost use Rattle.eq_classes.specs.work.Listing.{Gains, own_clause, paired_at, column_constants, inner_clause_at, inner_of, inner_clauses_at, constant_clauses_at, class_clauses_at, coupled, pairings, GainsConjunct, GainsConjuncts};
+ghost use Rattle.eq_classes.specs.work.Equality.{listed_as};
+ghost use Rattle.eq_classes.specs.work.Building.{AreBoundBy};
 
 use crate::class::EqClass;
 use crate::equality::{equality, equality_operator, family_of_equality, same_column};

@@ -4,6 +4,7 @@ ghost use Rattle.std.specs.Prelude.{◌≡◌, ◌<◌, ℕ, ◌&&◌};
 ghost use Rattle.opfamily.specs.pg_base_Sets.{has};
 ghost use Rattle.eq_classes.specs.Clauses.{one};
 ghost use Rattle.eq_classes.specs.Parts as parts;
+ghost use Rattle.eq_classes.specs.work.Parts as parts_work;
 
 use opfamily::pg_base::{RelNo, RelSet};
 

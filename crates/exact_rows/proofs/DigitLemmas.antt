@@ -7,7 +7,7 @@ use Rattle.std.proofs.lemmas.List.Elements.{All-set, All-get_or}
 use Rattle.std.proofs.lemmas.Grind.{take-set_at}
 use Rattle.std.proofs.lemmas.List.{drop_more, length-set, length-take-le, drop-set-lt}
 use Rattle.exact_rows.specs.declared.digits.TheConstants.{BASE, DIGITS}
-use Rattle.exact_rows.specs.Digits.{AreDigits, number}
+use Rattle.exact_rows.specs.work.Digits.{AreDigits, number}
 
 -- one digit more at the top
 pub number-append : (xs : List ℕ) (y : ℕ) → number (xs ++ y ∷ []) ≡ number xs + BASE ^ length xs * y

@@ -1,7 +1,7 @@
 -- The product of a few tables has room.
 use Rattle.std.proofs.Common.{◌≡◌, ◌<◌, ◌≤◌, ℕ, suc, ◌+◌, ◌*◌, ◌^◌, arith, ap, ◌∙◌, mul-le-mul_right, mul-le-mul_left}
 use Rattle.std.proofs.Math.Nat.{pow-succ', pow-le-pow_right}
-use Rattle.exact_rows.specs.Rows.{most_of}
+use Rattle.exact_rows.specs.work.Rows.{most_of}
 
 -- a product of so many tables, with one more
 pub one-more : (tables v n : ℕ) → v ≤ most_of tables → n < 2 ^ 32 → v * n ≤ most_of (tables + 1)

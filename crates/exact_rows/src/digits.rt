@@ -1,7 +1,7 @@
 //! Numbers as digits, the lowest first.
 
 ghost use Rattle.std.specs.Prelude.{◌≡◌, ◌≤◌, ◌<◌, ◌+◌, ◌-◌, ◌*◌, ◌/◌, ◌^◌, ℕ, length, drop, min};
-ghost use Rattle.exact_rows.specs.Digits.{AreDigits, number};
+ghost use Rattle.exact_rows.specs.work.Digits.{AreDigits, number};
 ghost use Rattle.exact_rows.specs.Rows.{share_kept};
 
 /// The base of the digits, and the parts that a share is counted in: all rows are so many.

@@ -1,7 +1,8 @@
 //! A number of rows, exact whatever its size.
 
 ghost use Rattle.std.specs.Prelude.{◌≡◌, ◌≤◌, ◌<◌, ◌*◌, ◌^◌, min};
-ghost use Rattle.exact_rows.specs.Rows.{most_of, share_kept};
+ghost use Rattle.exact_rows.specs.Rows.{share_kept};
+ghost use Rattle.exact_rows.specs.work.Rows.{most_of};
 
 use crate::digits::{BASE, DIGITS, append, cut, multiply, shrink};
 use std::marker::Model;
@@ -19,7 +20,7 @@ pub struct ExactRows {
 
 impl Model for ExactRows {
     ghost use Rattle.std.specs.Prelude.{ℕ};
-    ghost use Rattle.exact_rows.specs.Digits.{AreDigits, number};
+    ghost use Rattle.exact_rows.specs.work.Digits.{AreDigits, number};
 
     ghost Value = { ℕ };
 

@@ -8,7 +8,7 @@ ghost use Rattle.sql_query.specs.Worlds.{World, IsWorld};
 ghost use Rattle.plan_tree.specs.Plans.{Plan};
 ghost use Rattle.plan_tree.specs.Run.{run};
 ghost use Rattle.plan_tree.specs.Space.{IsFinished};
-ghost use Rattle.executor.specs.Numbers.{IsTupleOf};
+ghost use Rattle.executor.specs.work.Numbers.{IsTupleOf};
 
 /// Each tuple that a finished plan gives has a number for each relation of the query, that of one of its rows.
 pub fn tuples_have_rows()

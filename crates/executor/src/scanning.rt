@@ -3,13 +3,14 @@
 ghost use Rattle.std.specs.Prelude.{◌≡◌, ◌≤◌, ◌+◌, true, length, IfOk, IfSome, IfNone, OnOk};
 ghost use Rattle.heap.specs.Tuples.{rank};
 ghost use Rattle.sql_query.specs.Queries.{Query};
-ghost use Rattle.plan_tree.specs.Views.{plan};
-ghost use Rattle.scan_exec.specs.Coming.{looks_allowed, behind, is_given, owed};
-ghost use Rattle.scan_exec.specs.Plans.{IsScan};
+ghost use Rattle.plan_tree.specs.work.Views.{plan};
+ghost use Rattle.scan_exec.specs.Coming.{is_given, owed};
+ghost use Rattle.scan_exec.specs.work.Coming.{looks_allowed, behind};
+ghost use Rattle.scan_exec.specs.work.Plans.{IsScan};
 ghost use Rattle.plan_laws.specs.Closed.{is_scan};
-ghost use Rattle.executor.specs.EState.{IsOverStore};
-ghost use Rattle.executor.specs.Node.{IsNextScanned, IsScanning, IsSpentScanning, scanning_left, scanning_set};
-ghost use Rattle.executor.specs.AtState.{IsDrawableAt, whole_coming, whole_fetches, whole_looks, whole_opening, whole_run};
+ghost use Rattle.executor.specs.work.EState.{IsOverStore};
+ghost use Rattle.executor.specs.work.Node.{IsNextScanned, IsScanning, IsSpentScanning, scanning_left, scanning_set};
+ghost use Rattle.executor.specs.work.AtState.{IsDrawableAt, whole_coming, whole_fetches, whole_looks, whole_opening, whole_run};
 
 use crate::estate::EState;
 use crate::tuple::Tuple;

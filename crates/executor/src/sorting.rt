@@ -6,10 +6,10 @@ ghost use Rattle.eq_classes.specs.Holding.{IsWithin};
 ghost use Rattle.heap.specs.Tuples.{rank};
 ghost use Rattle.sql_query.specs.Queries.{all_of_query};
 ghost use Rattle.plan_tree.specs.Counts.{MOST_READS};
-ghost use Rattle.sort_rows.specs.Rows.{AllHaveRows};
-ghost use Rattle.executor.specs.EState.{IsOverStore, world_of};
-ghost use Rattle.executor.specs.Node.{IsSorting, IsSpentSorting, kept_left, sorting_left};
-ghost use Rattle.sort_rows.specs.KeySource.{tuples_by_keys};
+ghost use Rattle.sort_rows.specs.work.Rows.{AllHaveRows};
+ghost use Rattle.executor.specs.work.EState.{IsOverStore, world_of};
+ghost use Rattle.executor.specs.work.Node.{IsSorting, IsSpentSorting, kept_left, sorting_left};
+ghost use Rattle.sort_rows.specs.work.KeySource.{tuples_by_keys};
 
 use crate::estate::EState;
 use crate::tuple::Tuple;

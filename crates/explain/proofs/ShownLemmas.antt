@@ -12,15 +12,15 @@ use Rattle.eq_classes.proofs.ListLemmas.{IsIn, all_from}
 use Rattle.sql_query.specs.Queries.{Query}
 use Rattle.pathkeys.specs.Keys.{Keys}
 use Rattle.plan_tree.specs.Plans.{Plan, seq, index, index_only, bitmap, sort, nest, merge, BitTree, leaf, all_hold, some_arm, BitTrees, no_trees, tree_and, set_of}
-use Rattle.plan_tree.specs.Costs.{HaveRows}
-use Rattle.plan_tree.specs.Costable.{IsCostableTree, AreCostableTrees, IsMatchedBy}
+use Rattle.plan_tree.specs.work.Costs.{HaveRows}
+use Rattle.plan_tree.specs.work.Costable.{IsCostableTree, AreCostableTrees, IsMatchedBy}
 use Rattle.plan_tree.specs.Least.{IsAdmissible}
 use Rattle.plan_tree.specs.Space.{IsBuilt}
 use Rattle.plan_tree.proofs.BoundLemmas.{merge-most, nest-most, sort-most}
 use Rattle.plan_tree.proofs.CostableLemmas.{built-costable}
 use Rattle.plan_laws.proofs.JoiningLemmas.{joining_classes}
 use Rattle.plan_laws.proofs.ByClassesLemmas.{IsByClasses, plain_by_classes, side_by_classes, top_by_classes}
-use Rattle.explain.specs.Lines.{HasIndexes, HasLine, HasLines, HaveIndexes, IsShown}
+use Rattle.explain.specs.work.Lines.{HasIndexes, HasLine, HasLines, HaveIndexes, IsShown}
 use Rattle.explain.specs.Texts.{bits_text, node_line, text_at}
 
 pub has-line : (c : Contents) (q : Query) (p : Plan) → HasLines c q p → HasLine c q p

@@ -2,9 +2,10 @@
 
 ghost use Rattle.std.specs.Prelude.{◌≡◌, ◌++◌, All, OnOk};
 ghost use Rattle.catalog.specs.Contents.{IsIndex};
-ghost use Rattle.explain.specs.Lines.{HasIndexes, HaveIndexes};
-ghost use Rattle.plan_tree.specs.Views.{bits, bits_all};
-ghost use Rattle.explain.specs.Texts.{Gets, and_line, conjunct_in, leaf_line, leaf_lines, leaf_title, number_text, or_line, part_lines, tree_lines};
+ghost use Rattle.explain.specs.work.Lines.{HasIndexes, HaveIndexes};
+ghost use Rattle.plan_tree.specs.work.Views.{bits, bits_all};
+ghost use Rattle.explain.specs.Texts.{and_line, conjunct_in, leaf_line, leaf_lines, leaf_title, number_text, or_line};
+ghost use Rattle.explain.specs.work.Texts.{Gets, part_lines, tree_lines};
 
 use crate::lead::Lead;
 use catalog::Catalog;

@@ -5,6 +5,7 @@ ghost use Rattle.std.specs.Option.{IsSome};
 ghost use Rattle.std.specs.String.{string_bytes};
 ghost use Rattle.sql_query.specs.declared.window.Window as windows;
 ghost use Rattle.explain.specs.Texts as texts;
+ghost use Rattle.explain.specs.work.Texts as texts_work;
 ghost use Rattle.explain.specs.Texts.{numbers_text, rows_behind, window_text};
 
 use cost_rules::Pair;

@@ -3,10 +3,11 @@
 ghost use Rattle.std.specs.Prelude.{◌≡◌, ◌<◌, ◌++◌, ℕ, All, OnOk, codes, cond, length, nat_eq};
 ghost use Rattle.std.specs.Prelude.{[]};
 ghost use Rattle.pg_base.specs.Sets.{has};
-ghost use Rattle.plan_laws.specs.path_cost_Columns.{AreTables};
-ghost use Rattle.pathkeys.specs.Finding.{class_numbers};
+ghost use Rattle.plan_laws.specs.path_cost_work_Columns.{AreTables};
+ghost use Rattle.pathkeys.specs.work.Finding.{class_numbers};
 ghost use Rattle.sql_query.specs.WellBound.{IsWellBound};
-ghost use Rattle.explain.specs.Texts.{Gets, direction_text, family_text, member_at, key_list, key_text};
+ghost use Rattle.explain.specs.Texts.{direction_text, family_text, key_text};
+ghost use Rattle.explain.specs.work.Texts.{Gets, member_at, key_list};
 
 use crate::relations::put_column;
 use catalog::Catalog;

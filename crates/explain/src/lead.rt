@@ -1,7 +1,8 @@
 //! What stands before the line of a node.
 
 ghost use Rattle.std.specs.Prelude.{◌≡◌, ◌+◌, ◌++◌, IfOk, OnOk};
-ghost use Rattle.explain.specs.Texts.{lead, six_before};
+ghost use Rattle.explain.specs.Texts.{lead};
+ghost use Rattle.explain.specs.work.Texts.{six_before};
 
 use pg_base::Memory;
 use std::alloc::Global;
@@ -15,7 +16,8 @@ pub(crate) struct Lead {
 
 impl Model for Lead {
     ghost use Rattle.std.specs.Prelude.{◌≡◌, ◌/◌, ℕ, length};
-    ghost use Rattle.explain.specs.Texts.{lead, six_before};
+    ghost use Rattle.explain.specs.Texts.{lead};
+    ghost use Rattle.explain.specs.work.Texts.{six_before};
 
     ghost Value = { ℕ };
 

@@ -2,14 +2,16 @@
 
 ghost use Rattle.std.specs.Prelude.{◌≡◌, ◌<◌, ◌++◌, ℕ, All, IfOk, OnOk, length};
 ghost use Rattle.catalog.specs.Contents.{IsIndex};
-ghost use Rattle.plan_tree.specs.Costable.{IsCostable};
+ghost use Rattle.plan_tree.specs.work.Costable.{IsCostable};
 ghost use Rattle.plan_tree.specs.Least.{IsAdmissible};
-ghost use Rattle.plan_tree.specs.Views.{path, plan};
+ghost use Rattle.plan_tree.specs.work.Views.{path, plan};
 ghost use Rattle.sql_query.specs.Queries.{width};
 ghost use Rattle.sql_query.specs.WellBound.{IsWellBound};
-ghost use Rattle.explain.specs.Lines.{HasLine, HasLines, IsShown};
+ghost use Rattle.explain.specs.work.Lines.{HasLine, HasLines, IsShown};
 ghost use Rattle.explain.specs.Texts as texts;
-ghost use Rattle.explain.specs.Texts.{Gets, backward_text, first_depth, node_keys, node_line, node_numbers, scan_name, text_at, title, using_text};
+ghost use Rattle.explain.specs.work.Texts as texts_work;
+ghost use Rattle.explain.specs.Texts.{backward_text, first_depth, node_line, node_numbers, scan_name, text_at, title, using_text};
+ghost use Rattle.explain.specs.work.Texts.{Gets, node_keys};
 
 use crate::bits::put_bits;
 use crate::figures::numbers;

@@ -3,10 +3,11 @@
 ghost use Rattle.std.specs.Prelude.{◌≡◌, ◌<◌, ◌≤◌, ◌++◌, ℕ, Bool, List, IfOk, OnOk, map};
 ghost use Rattle.pg_base.specs.Sets.{has};
 ghost use Rattle.catalog.specs.Contents.{IsIndex, index_name_at};
-ghost use Rattle.plan_laws.specs.path_cost_Columns.{AreTables};
+ghost use Rattle.plan_laws.specs.path_cost_work_Columns.{AreTables};
 ghost use Rattle.sql_query.specs.Queries.{width};
 ghost use Rattle.sql_query.specs.WellBound.{IsColumnOf};
-ghost use Rattle.explain.specs.Texts.{before_given, column_text, given_list, given_text, rel_text, relation_text, scanned_text, with_alias};
+ghost use Rattle.explain.specs.Texts.{column_text, given_text, rel_text, relation_text, scanned_text, with_alias};
+ghost use Rattle.explain.specs.work.Texts.{before_given, given_list};
 
 use catalog::Catalog;
 use pg_base::{IndexNo, Memory, RelNo, RelSet};

@@ -17,7 +17,7 @@ use Rattle.sql_query.specs.Queries.{Query}
 use Rattle.sql_query.specs.WellBound.{IsWellBound}
 use Rattle.plan_tree.specs.Plans.{BitTree, leaf, all_hold, some_arm, BitTrees, no_trees, tree_and}
 use Rattle.plan_tree.specs.Bitmaps.{ArePicked, Element, IsBitTree, IsElement, by_clause, by_index, candidates, condition_at, element_of, elements_of, none_left, passed, picked, table_of_relation}
-use Rattle.plan_tree.specs.Costable.{AreCostableTrees, IsCostableTree, IsMatchedBy}
+use Rattle.plan_tree.specs.work.Costable.{AreCostableTrees, IsCostableTree, IsMatchedBy}
 use Rattle.plan_tree.proofs.CostableLemmas.{In, in-contained, in-masked, in-picked, in-taken}
 use Rattle.plan_space.proofs.NamedLemmas.{IsOfTable, enumerated}
 use Rattle.explain.specs.Texts.{bits_text, conjunct_by, lead, leaf_line, number_text, plain_line, trees_text}

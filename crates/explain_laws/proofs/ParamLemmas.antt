@@ -17,7 +17,7 @@ use Rattle.catalog.specs.Contents.{Contents}
 use Rattle.eq_classes.specs.Clauses.{Clause}
 use Rattle.eq_classes.specs.Parts.{has_column, is_inside}
 use Rattle.eq_classes.proofs.InsideLemmas.{names_inside}
-use Rattle.path_cost.specs.Columns.{IsOver, is_column_in}
+use Rattle.path_cost.specs.work.Columns.{IsOver, is_column_in}
 use Rattle.path_cost.specs.Estimates.{conditions_from}
 use Rattle.index_match.specs.Conditions.{index_conditions}
 use Rattle.index_match.specs.Numbered.{has_number}

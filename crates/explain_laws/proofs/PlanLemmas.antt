@@ -23,7 +23,7 @@ use Rattle.plan_tree.specs.Plans.{Plan, seq, index, index_only, bitmap, sort, ne
 use Rattle.plan_tree.specs.Space.{HasKeys, IsBuilt, IsSameSet, MeetsOrder}
 use Rattle.plan_tree.proofs.CostableLemmas.{built-costable}
 use Rattle.plan_laws.proofs.KeyLemmas.{AreKeys, list_keys, wider}
-use Rattle.explain.specs.Lines.{IsShown}
+use Rattle.explain.specs.work.Lines.{IsShown}
 use Rattle.plan_laws.proofs.JoiningLemmas.{joining_classes}
 use Rattle.explain.specs.Texts.{aliases_in, bits_text, explained_text, first_depth, lead, line_by, numbers_text, plan_text, rows_behind, scanned_text, text_at, title, window_text}
 use Rattle.explain_laws.proofs.BitLemmas.{IsShallow, IsTreeTold, bits-split, line-shallow, shallow-end, shallow-more, tree-told}

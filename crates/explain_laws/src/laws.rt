@@ -5,7 +5,7 @@ ghost use Rattle.catalog.specs.Contents.{Contents, IsLawful};
 ghost use Rattle.sql_query.specs.Queries.{Query};
 ghost use Rattle.sql_query.specs.WellBound.{IsWellBound};
 ghost use Rattle.plan_tree.specs.Plans.{Plan};
-ghost use Rattle.explain.specs.Lines.{IsShown};
+ghost use Rattle.explain.specs.work.Lines.{IsShown};
 ghost use Rattle.explain.specs.Texts.{explained_text, plan_text};
 
 /// Two plans of one query, each of the plan space for its set and parameterisation or finished, are one plan where their

@@ -6,25 +6,25 @@ use Rattle.pg_value.specs.declared.value.SqlType.{SqlType}
 use Rattle.pg_expr.specs.declared.expr.Expr.{Expr}
 use Rattle.pg_expr.specs.declared.operand.ColRef.{ColRef}
 use Rattle.pg_expr.specs.Cond.{is_null as null_test, is_not_null as not_null_test, const, no_conds}
-use Rattle.pg_expr.specs.View.{cond}
+use Rattle.pg_expr.specs.work.View.{cond}
 use Rattle.sql_lex.specs.declared.tokens.Token.{Token}
 use Rattle.sql_grammar.specs.declared.class.Word.TheVariants.{And, Is, Not, Null}
 use Rattle.sql_grammar.specs.declared.class.Symbol.TheVariants.{Open, Close}
 use Rattle.sql_grammar.specs.declared.class.Free.TheVariants.{Between, In}
 use Rattle.sql_grammar.specs.Terminals.{Terminal, Said, free, t_name, t_key, t_mark, t_operator}
 use Rattle.sql_grammar.specs.Syntax.{Expr as ExprTree, Negated, no_not, not_before, in_list, between, Neg, negated, plain, Col, bare, qualified, yes, no, unknown, Lit, number, negative, quoted, constant, OperandTree, column, literal, Atom, parens, compare, is_null, is_not_null, column_alone, constant_alone}
-use Rattle.sql_grammar.specs.Unique.{ends_atom, is_parens, front, tail}
+use Rattle.sql_grammar.specs.work.Unique.{ends_atom, is_parens, front, tail}
 use Rattle.sql_grammar.specs.Words.{words_of_expr, words_of_neg, words_of_atom, words_of_operand, words_of_col, words_of_negated, words_of_lit, words_of_bounds}
 use Rattle.sql_grammar.proofs.ExprTrees.{tested}
 use Rattle.expr_reader.specs.declared.cursor.Operator.{Operator}
-use Rattle.expr_reader.specs.Reading.{BeginsNot, BeginsOperator, BeginsNoOperator, operator_said}
+use Rattle.expr_reader.specs.work.Reading.{BeginsNot, BeginsOperator, BeginsNoOperator, operator_said}
 use Rattle.expr_reader.specs.declared.written.Literal.{Literal}
 use Rattle.expr_reader.specs.declared.written.Literal.TheVariants.{Constant as ConstantOf}
 use Rattle.expr_reader.specs.declared.written.Side.TheVariants.{Column, Literal as LiteralSide}
 use Rattle.expr_reader.specs.Conditions.{next, then_parts, comparison, standing_for, negated_by, literals_after, equal_to, or_of, and_of, BoundSide, of_column, of_literal, side_of, column_of, place_of_col, compare_sides, flag_column, truth_of_constant, meaning_of_atom}
-use Rattle.expr_reader.specs.Reads.{seen_as}
+use Rattle.expr_reader.specs.work.Reads.{seen_as}
 use Rattle.expr_reader.specs.Scope.{Scope}
-use Rattle.expr_reader.specs.Written.{side_read, literal_of, IsNullWords}
+use Rattle.expr_reader.specs.work.Written.{side_read, literal_of, IsNullWords}
 
 -- a comparison, where an operator is next
 pub record Comparison (a : Atom) (rest left : List Terminal) (o : Operator) : Type 0 where

@@ -3,7 +3,7 @@ use Rattle.std.proofs.Common.{◌≡◌, ℕ, ◌+◌, Bool, false, refl, arith}
 use Rattle.pg_expr.specs.Cond.{Cond, compare, is_null, is_not_null, bool_col, const, all_of, any_of, negation, Conds, no_conds, cond_and, joined}
 use Rattle.pg_expr.specs.Conjuncts.{conjuncts_of, conjuncts_of_all}
 use Rattle.pg_expr.specs.Pushed.{group_of, parts_of, pushed, pushed_parts}
-use Rattle.expr_reader.specs.Counts.{count_of, conjuncts_counted}
+use Rattle.expr_reader.specs.work.Counts.{count_of, conjuncts_counted}
 
 -- the numbers of conjuncts of the parts of an AND
 abbrev pub each_counted : Bool → Conds → ℕ

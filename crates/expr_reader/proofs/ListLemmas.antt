@@ -11,17 +11,17 @@ use Rattle.sql_grammar.specs.declared.class.Word.TheVariants.{And, Is, Not}
 use Rattle.sql_grammar.specs.declared.class.Symbol.TheVariants.{Close, Comma, Open}
 use Rattle.sql_grammar.specs.Terminals.{Terminal, free, t_key, t_mark, t_name}
 use Rattle.sql_grammar.specs.Syntax.{Mark, Key, Lit, OperandTree, column, literal, Col, Negated, no_not, not_before, Atom, parens, compare, is_null, is_not_null, in_list, between, column_alone, constant_alone}
-use Rattle.sql_grammar.specs.Unique.{ends_operand, ends_atom, is_parens, front, tail}
+use Rattle.sql_grammar.specs.work.Unique.{ends_operand, ends_atom, is_parens, front, tail}
 use Rattle.sql_grammar.specs.Words.{words_of_bounds, words_of_lit, words_of_operand}
 use Rattle.sql_grammar.proofs.ExprTrees.{tested, atom-dotless}
 use Rattle.expr_reader.specs.declared.written.Literal.{Literal}
 use Rattle.expr_reader.specs.declared.written.Side.{Side as SideRead}
 use Rattle.expr_reader.specs.declared.written.Side.TheVariants.{Column, Literal as LiteralSide}
-use Rattle.expr_reader.specs.Reading.{Begins, BeginsNot, BeginsNoOperator, free_name}
+use Rattle.expr_reader.specs.work.Reading.{Begins, BeginsNot, BeginsNoOperator, free_name}
 use Rattle.expr_reader.specs.Conditions.{next, then_parts, standing_for, negated_by, literals_after, equal_to, bounded_by, comparison, or_of, and_of, BoundSide, of_column, of_literal, side_of, compare_sides, meaning_of_atom}
-use Rattle.expr_reader.specs.Expressions.{against, each_equal}
+use Rattle.expr_reader.specs.work.Expressions.{against, each_equal}
 use Rattle.expr_reader.specs.Scope.{Scope}
-use Rattle.expr_reader.specs.Written.{literal_of, side_read}
+use Rattle.expr_reader.specs.work.Written.{literal_of, side_read}
 use Rattle.expr_reader.proofs.AtomLemmas.{NoList, no-column}
 use Rattle.expr_reader.proofs.PartLemmas.{after, first-ready, first-fault, more-ready, no-more}
 

@@ -5,10 +5,10 @@ use Rattle.sql_grammar.specs.declared.class.Word.TheVariants.{True, False, Null}
 use Rattle.sql_grammar.specs.declared.class.Symbol.TheVariants.{Minus}
 use Rattle.sql_grammar.specs.Terminals.{Terminal, Said, t_key, t_mark, t_number}
 use Rattle.sql_grammar.specs.Syntax.{Constant, yes, no, unknown, Lit, number, negative, quoted, constant}
-use Rattle.sql_grammar.specs.Unique.{token_in}
+use Rattle.sql_grammar.specs.work.Unique.{token_in}
 use Rattle.sql_grammar.specs.Words.{words_of_lit, constant_word}
 use Rattle.expr_reader.specs.declared.cursor.Spelled.{Spelled}
-use Rattle.expr_reader.specs.Reading.{BeginsNot, BeginsQuoted, BeginsNoQuoted}
+use Rattle.expr_reader.specs.work.Reading.{BeginsNot, BeginsQuoted, BeginsNoQuoted}
 use Rattle.expr_reader.specs.Literals.{place_of_lit}
 
 -- none of TRUE, FALSE and NULL is next

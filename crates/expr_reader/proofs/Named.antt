@@ -11,7 +11,8 @@ use Rattle.sql_lex.specs.declared.tokens.Token.{Token}
 use Rattle.sql_lex.specs.Letters.{begins_word, is_in_word}
 use Rattle.sql_lex.specs.Forms.{IsWord, IsToken}
 use Rattle.sql_lex.specs.Words.{AreWords, is_last}
-use Rattle.sql_grammar.specs.Terminals.{Terminal, Ident, t_name, place_of, class_of}
+use Rattle.sql_grammar.specs.Terminals.{Terminal, Ident, t_name}
+use Rattle.sql_grammar.specs.work.Terminals.{place_of, class_of}
 use Rattle.sql_grammar.specs.Reading.{terminal_by, terminal_of, bytes_of_token}
 use Rattle.sql_grammar.specs.Faults.{bytes_of, limit_of, terminals, AreWithinLimits}
 use Rattle.pg_base.specs.Names.{IsName, begins_name, is_in_name}

@@ -11,7 +11,8 @@ use Rattle.sql_grammar.specs.declared.class.Word.{Word}
 use Rattle.sql_grammar.specs.declared.class.Free.{Free}
 use Rattle.sql_grammar.specs.declared.class.Class.{Class}
 use Rattle.sql_grammar.specs.declared.class.Class.TheVariants.{Name, Operator, Quoted}
-use Rattle.sql_grammar.specs.Terminals.{Terminal, Ident, token_of, t_name, t_operator, t_quoted, class_of}
+use Rattle.sql_grammar.specs.Terminals.{Terminal, Ident, token_of, t_name, t_operator, t_quoted}
+use Rattle.sql_grammar.specs.work.Terminals.{class_of}
 use Rattle.sql_grammar.specs.Reading.{free_spelling_of, free_words, reserved_of, free_of, ident_of, word_terminal, symbol_terminal, mark_of, terminal_by, value_of_quoted}
 use Rattle.sql_grammar.specs.Faults.{bytes_of}
 use Rattle.sql_grammar.proofs.LimitLaws.{named-by}

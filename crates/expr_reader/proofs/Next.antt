@@ -5,15 +5,17 @@ use Rattle.std.specs.Char.{to_ascii_lowercase}
 use Rattle.sql_lex.specs.declared.tokens.Token.{Token}
 use Rattle.sql_grammar.specs.declared.class.Free.{Free}
 use Rattle.sql_grammar.specs.declared.class.Class.TheVariants.{Name, Operator as OperatorClass, Quoted}
-use Rattle.sql_grammar.specs.Terminals.{Terminal, Ident, token_of, class_of}
+use Rattle.sql_grammar.specs.Terminals.{Terminal, Ident, token_of}
+use Rattle.sql_grammar.specs.work.Terminals.{class_of}
 use Rattle.sql_grammar.specs.Reading.{terminal_of, value_of_quoted, bytes_of_token}
-use Rattle.sql_grammar.specs.Unique.{token_in}
+use Rattle.sql_grammar.specs.work.Unique.{token_in}
 use Rattle.sql_grammar.specs.Faults.{terminals, bytes_of}
 use Rattle.sql_grammar.proofs.ExprTrees.{by-token}
 use Rattle.expr_reader.specs.declared.cursor.Operator.{Operator}
 use Rattle.expr_reader.specs.declared.cursor.Spelled.{Spelled}
 use Rattle.expr_reader.specs.Operators.{operator_of}
-use Rattle.expr_reader.specs.Reading.{BeginsName, BeginsOperator, BeginsQuoted, operator_said, spelled}
+use Rattle.expr_reader.specs.Reading.{spelled}
+use Rattle.expr_reader.specs.work.Reading.{BeginsName, BeginsOperator, BeginsQuoted, operator_said}
 use Rattle.expr_reader.proofs.Names.{name-bytes, operator-bytes, quoted-value}
 
 first : (text : List ℕ) (ts : List Token) (d : Token) (word : Terminal) (left : List Terminal) → terminals text ts ≡ word ∷ left → word ≡ terminal_of text (get_or ts 0 d)

@@ -8,17 +8,18 @@ use Rattle.sql_grammar.specs.declared.class.Symbol.TheVariants.{Dot}
 use Rattle.sql_grammar.specs.Faults.{bytes_of}
 use Rattle.sql_grammar.specs.Terminals.{Terminal, Ident, t_mark, t_name, token_of}
 use Rattle.sql_grammar.specs.Syntax.{Col, bare, qualified, OperandTree, column}
-use Rattle.sql_grammar.specs.Unique.{token_in}
+use Rattle.sql_grammar.specs.work.Unique.{token_in}
 use Rattle.sql_grammar.specs.Words.{words_of_col}
 use Rattle.expr_reader.specs.declared.cursor.Spelled.{Spelled}
-use Rattle.expr_reader.specs.Reading.{BeginsName, BeginsNot, spelled}
+use Rattle.expr_reader.specs.Reading.{spelled}
+use Rattle.expr_reader.specs.work.Reading.{BeginsName, BeginsNot}
 use Rattle.expr_reader.specs.declared.found.Found.{Found}
 use Rattle.expr_reader.specs.declared.found.Found.TheVariants.{One, NoTable, NoColumn, Many}
 use Rattle.expr_reader.specs.declared.written.Side.{Side}
 use Rattle.expr_reader.specs.declared.written.Side.TheVariants.{Column}
 use Rattle.expr_reader.specs.Conditions.{next, BoundSide as SideTree, of_column, side_of, the_column, column_of, place_of_col}
 use Rattle.expr_reader.specs.Scope.{Scope, look_up}
-use Rattle.expr_reader.specs.Written.{side_meant, side_read}
+use Rattle.expr_reader.specs.work.Written.{side_meant, side_read}
 
 -- a name, and no dot after it
 pub record BareCol (c : Col) (rest : List Terminal) (s : Spelled) (left : List Terminal) : Type 0 where

@@ -10,17 +10,17 @@ use Rattle.pg_expr.specs.declared.expr.Expr.{And as AndOf, Not as NotOf, Or as O
 use Rattle.pg_expr.specs.declared.expr.Expr.TheViews.{the_lemmas}
 use Rattle.pg_expr.specs.declared.expr.Expr.TheVariants.{rolls-Or, rolls-And, rolls-Not}
 use Rattle.pg_expr.specs.declared.expr.Expr.TheFolds.{fold_out-Expr, fold_out-Exprs}
-use Rattle.pg_expr.specs.View.{cond, conds}
+use Rattle.pg_expr.specs.work.View.{cond, conds}
 use Rattle.pg_expr.specs.Cond.{Cond, Conds, no_conds, cond_and, all_of, any_of, negation, joined}
 use Rattle.pg_expr.proofs.CondLaws.{conds-append, joined_assoc, joined-nil}
 use Rattle.sql_lex.specs.declared.tokens.Token.{Token}
 use Rattle.sql_grammar.specs.declared.class.Word.TheVariants.{And, Or}
 use Rattle.sql_grammar.specs.Terminals.{Terminal, t_key}
 use Rattle.sql_grammar.specs.Syntax.{Expr, either_of, Ors, no_or, or_conj, Conj, both_of, Ands, no_and, and_neg, Neg}
-use Rattle.sql_grammar.specs.Unique.{ends_atom, ends_conj, ends_expr}
+use Rattle.sql_grammar.specs.work.Unique.{ends_atom, ends_conj, ends_expr}
 use Rattle.sql_grammar.specs.Words.{words_of_expr, words_of_ors, words_of_conj, words_of_ands, words_of_neg}
 use Rattle.sql_grammar.proofs.ExprTrees.{ands-end, ors-end, tested}
-use Rattle.expr_reader.specs.Reading.{BeginsNot}
+use Rattle.expr_reader.specs.work.Reading.{BeginsNot}
 use Rattle.expr_reader.specs.Conditions.{next, then_parts, or_of, and_of, meaning_of_expr, meaning_of_ors, meaning_of_conj, meaning_of_ands, meaning_of_neg}
 use Rattle.expr_reader.specs.Scope.{Scope}
 

@@ -14,7 +14,7 @@ use Rattle.sql_grammar.specs.Terminals.{Said}
 use Rattle.sql_grammar.specs.Faults.{fault_at}
 use Rattle.sql_grammar.specs.Syntax.{Lit, Col, OperandTree, column, literal, Negated, no_not, not_before, in_list, between, Expr, either_of, Ors, no_or, or_conj, Conj, both_of, Ands, no_and, and_neg, Neg, negated, plain, Atom, parens, compare, is_null, is_not_null, column_alone, constant_alone}
 use Rattle.expr_reader.specs.Operators.{operator_of}
-use Rattle.expr_reader.specs.Parted.{HasParts, HaveParts}
+use Rattle.expr_reader.specs.work.Parted.{HasParts, HaveParts}
 use Rattle.expr_reader.specs.Scope.{Scope}
 use Rattle.expr_reader.specs.Conditions.{next, comparison, standing_for, negated_by, literals_after, equal_to, bounded_by, column_of, place_of_col, BoundSide, own_type, type_beside, operand_of, operated, compare_as, compare_sides, flag_column, then_parts, or_of, and_of, side_of, meaning_of_expr, meaning_of_ors, meaning_of_conj, meaning_of_ands, meaning_of_neg, meaning_of_atom}
 

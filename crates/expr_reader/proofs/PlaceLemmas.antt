@@ -7,7 +7,7 @@ use Rattle.std.proofs.lemmas.List.{length-take-le}
 use Rattle.std.proofs.lemmas.List.Quantifiers.{position-Some}
 use Rattle.std.proofs.Math.Seq.{take-suc}
 use Rattle.pg_expr.specs.declared.operand.ColRef.{ColRef}
-use Rattle.expr_reader.specs.Places.{AreFirst, HasNoted, earlier, first_place, is_it}
+use Rattle.expr_reader.specs.work.Places.{AreFirst, HasNoted, earlier, first_place, is_it}
 
 module _ {X : Type 0} (p : X → Bool) where
   one-more : (b : Bool) (i n m : ℕ) (xs ys : Option ℕ) (y : X) → n ≡ m → xs ≡ earlier ys (cond (p y) (Some n) None) → cond b (Some i) xs ≡ earlier (cond b (Some i) ys) (cond (p y) (Some m) None)

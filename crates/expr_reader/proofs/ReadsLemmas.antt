@@ -5,7 +5,7 @@ use Rattle.pg_base.specs.declared.faults.Fault.{Fault}
 use Rattle.pg_base.specs.declared.faults.Refusal.{Refusal}
 use Rattle.pg_base.specs.declared.faults.Refusal.TheVariants as refusal
 use Rattle.sql_grammar.specs.Terminals.{Terminal}
-use Rattle.expr_reader.specs.Reads.{Reads, IsReadAs, seen_as}
+use Rattle.expr_reader.specs.work.Reads.{Reads, IsReadAs, seen_as}
 
 -- what is meant
 pub read-ok : (T A : Type 0) (seen : T → A) (m : Result A Fault) (x : T) (rest left : List Terminal) → Ok (seen x) ≡ m → left ≡ rest → Reads seen m rest (Ok x) left

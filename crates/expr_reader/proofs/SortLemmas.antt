@@ -6,8 +6,9 @@ use Rattle.sql_grammar.specs.declared.class.Free.TheVariants.{First, Nulls}
 use Rattle.sql_grammar.specs.Terminals.{Terminal, free, t_key, t_name}
 use Rattle.sql_grammar.specs.Syntax.{Direction, no_direction, ascending, descending, NullsEnd, no_nulls_end, nulls_first, nulls_last}
 use Rattle.sql_grammar.specs.Words.{words_of_direction, words_of_nulls_end}
-use Rattle.expr_reader.specs.Reading.{BeginsNot}
-use Rattle.expr_reader.specs.Sorts.{is_descending, has_nulls_first, ends_nulls_end}
+use Rattle.expr_reader.specs.work.Reading.{BeginsNot}
+use Rattle.expr_reader.specs.Sorts.{is_descending, has_nulls_first}
+use Rattle.expr_reader.specs.work.Sorts.{ends_nulls_end}
 
 -- neither DESC nor ASC is next
 pub neither : (d : Direction) (rest old new : List Terminal) → BeginsNot (t_key Desc) old → BeginsNot (t_key Asc) old → new ≡ old → old ≡ words_of_direction d ++ rest →

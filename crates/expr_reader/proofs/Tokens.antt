@@ -8,8 +8,9 @@ use Rattle.sql_lex.specs.declared.tokens.Kind.TheVariants.{Word as WordKind, Num
 use Rattle.sql_lex.specs.Forms.{IsToken}
 use Rattle.sql_lex.specs.Words.{AreWords, is_last}
 use Rattle.pg_value.specs.Fields.{is_numeral}
-use Rattle.sql_grammar.specs.Reading.{IsWithin, bytes_of_token}
-use Rattle.expr_reader.specs.Reading.{HasDigits}
+use Rattle.sql_grammar.specs.Reading.{bytes_of_token}
+use Rattle.sql_grammar.specs.work.Reading.{IsWithin}
+use Rattle.expr_reader.specs.work.Reading.{HasDigits}
 use Rattle.expr_reader.proofs.Named.{formed}
 use Rattle.sql_grammar.proofs.StatementWords.{inside-by}
 

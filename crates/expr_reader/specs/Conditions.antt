@@ -1,7 +1,7 @@
 -- What a condition means over the visible columns and their types, or its first fault: from the left, and within a comparison
 -- its columns first, then its literals, then its operator; IN and BETWEEN are the comparisons that they stand for, one after
 -- the other (PostgreSQL manual, chapter Type Conversion, Operators; codes: appendix Error Codes).
-use Rattle.std.specs.Prelude.{◌≡◌, ℕ, Bool, All, IsTrue, List, [], ◌∷◌, codes, Option, Some, None, Result, Ok, Err, cond}
+use Rattle.std.specs.Prelude.{ℕ, Bool, List, [], ◌∷◌, codes, Option, Some, None, Result, Ok, Err, cond}
 use Rattle.pg_base.specs.declared.faults.Code.TheVariants.{S2, S3, S4, S9, S10}
 use Rattle.pg_base.specs.declared.faults.Fault.{Fault}
 use Rattle.pg_value.specs.declared.operators.Op.{Op}
@@ -13,7 +13,6 @@ use Rattle.opfamily.specs.Answers.{does_exist}
 use Rattle.pg_expr.specs.declared.operand.ColRef.{ColRef}
 use Rattle.pg_expr.specs.declared.operand.Operand.{Operand}
 use Rattle.pg_expr.specs.declared.operand.Operand.TheVariants.{Col as col_operand, Lit as lit_operand}
-use Rattle.pg_expr.specs.Columns.{each_column}
 use Rattle.pg_expr.specs.Cond.{Cond, compare as compared, is_null as null_test, is_not_null as not_null_test, bool_col, const, all_of, any_of, negation, Conds, no_conds, cond_and}
 use Rattle.sql_lex.specs.declared.tokens.Token.{Token}
 use Rattle.sql_grammar.specs.Terminals.{Said, token_of}
@@ -172,13 +171,3 @@ module _ (scope : Scope) (type_of : ColRef → SqlType) where
     meaning_of_atom (between _ x n w a _ b) = next (bounded_by x w a b) (λ xs. Ok (negated_by n (and_of xs)))
     meaning_of_atom (column_alone c) = next (column_of scope c) (λ r. flag_column (type_of r) r (place_of_col c))
     meaning_of_atom (constant_alone k _) = Ok (const (truth_of_constant k))
-
--- what each expression means over some visible columns and their types has this
-abbrev pub EachMeaning : (Scope → (ColRef → SqlType) → Cond → Type 0) → Type 0
-EachMeaning Has =
-    (scope : Scope) (type_of : ColRef → SqlType) (e : Expr) (c : Cond) → meaning_of_expr scope type_of e ≡ Ok c →
-    Has scope type_of c
-
--- each column that a condition names is a visible one: a test that all visible columns pass, each column of it passes
-abbrev pub IsOfVisible : Scope → Cond → Type 0
-IsOfVisible scope c = (test : ColRef → Bool) → All (λ v. IsTrue (test v.column)) scope → IsTrue (each_column test c)

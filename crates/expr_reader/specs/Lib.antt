@@ -1,13 +1,8 @@
 pub mod Scope
 pub mod Literals
 pub mod Conditions
-pub mod Counts
-pub mod Reads
-pub mod Written
-pub mod Expressions
-pub mod Parted
 pub mod Reading
 pub mod Operators
 pub mod Lists
 pub mod Sorts
-pub mod Places
+pub mod work

@@ -1,6 +1,6 @@
 -- The value of a literal, or its fault (PostgreSQL manual, chapters Lexical Structure, Constants, and Type Conversion; codes:
 -- appendix Error Codes).
-use Rattle.std.specs.Prelude.{◌≡◌, ℕ, ◌-◌, ◌^◌, min, Bool, true, false, Option, Some, None, Result, Ok, Err, ℤ}
+use Rattle.std.specs.Prelude.{Bool, true, false, Option, Some, None, Result, Ok, Err, ℤ}
 use Rattle.std.specs.Str.Parse.{digits_value}
 use Rattle.pg_base.specs.declared.faults.Code.TheVariants.{S10, S11, S12, S17}
 use Rattle.pg_base.specs.declared.faults.Fault.{Fault}
@@ -26,10 +26,6 @@ place_of_lit (constant c k) = k
 -- the whole number that digits write, with a minus or without
 abbrev pub written : Bool → Said → ℤ
 written minus n = signed minus (digits_value 10 n.value)
-
--- where a number is read so, as itself or as 2^64 - 1 where it is more, this holds of it
-abbrev pub IfCapped : ℕ → (ℕ → Type 0) → Type 0
-IfCapped magnitude P = (n : ℕ) → magnitude ≡ min n (2 ^ 64 - 1) → P n
 
 -- a value, or the fault of a literal at this token that is none of the type
 abbrev pub value_or_fault : Token → Result Value FieldFault → Result Value Fault

@@ -11,10 +11,6 @@ pub record Visible : Type 0 where
   pub name : List ℕ
   pub column : ColRef
 
--- a column of a relation under an alias
-abbrev pub shown : List ℕ → List ℕ → ℕ → ℕ → Visible
-shown alias name rel col = record { alias = alias; name = name; column = record { rel = record { 0 = rel }; col = record { 0 = col } } }
-
 -- the visible columns, in order
 abbrev pub Scope : Type 0
 Scope = List Visible

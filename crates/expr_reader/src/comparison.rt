@@ -1,11 +1,11 @@
 //! Comparisons of two sides whose columns are found.
 
 ghost use Rattle.std.specs.Prelude.{◌≡◌, Option};
-ghost use Rattle.pg_expr.specs.View.{cond};
+ghost use Rattle.pg_expr.specs.work.View.{cond};
 ghost use Rattle.expr_reader.specs.Conditions.{BoundSide as SideTree, own_type as own_type_of, type_beside as type_beside_of, operand_of as operand_of_side, operated as operated_of};
 ghost use Rattle.expr_reader.specs.Literals.{type_of_lit};
-ghost use Rattle.expr_reader.specs.Reads.{seen_as};
-ghost use Rattle.expr_reader.specs.Written.{side_read, IsComparison};
+ghost use Rattle.expr_reader.specs.work.Reads.{seen_as};
+ghost use Rattle.expr_reader.specs.work.Written.{side_read, IsComparison};
 
 use crate::Operator;
 use crate::value::literal_value;

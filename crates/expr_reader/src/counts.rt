@@ -3,8 +3,8 @@
 ghost use Rattle.std.specs.Prelude.{◌≡◌, ◌-◌, ◌^◌, min};
 ghost use Rattle.pg_expr.specs.Conjuncts.{conjuncts_of};
 ghost use Rattle.pg_expr.specs.Pushed.{group_of, pushed_parts};
-ghost use Rattle.pg_expr.specs.View.{cond, conds};
-ghost use Rattle.expr_reader.specs.Counts.{conjuncts_counted, count_of};
+ghost use Rattle.pg_expr.specs.work.View.{cond, conds};
+ghost use Rattle.expr_reader.specs.work.Counts.{conjuncts_counted, count_of};
 
 use pg_expr::Expr;
 

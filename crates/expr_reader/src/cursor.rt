@@ -4,7 +4,7 @@ ghost use Rattle.std.specs.Prelude.{◌≡◌, ◌≢◌, ◌≤◌, ◌^◌, �
 ghost use Rattle.sql_lex.specs.Words.{AreWords};
 ghost use Rattle.sql_grammar.specs.Terminals.{Terminal, Ident, t_key, t_mark, t_name};
 ghost use Rattle.sql_grammar.specs.Faults.{terminals};
-ghost use Rattle.expr_reader.specs.Reading.{Begins, BeginsNot, BeginsName, BeginsNoName, BeginsQuoted, BeginsNoQuoted, IsNextToken, IsNextClass, free_name, TakesNumber, TakesOperator};
+ghost use Rattle.expr_reader.specs.work.Reading.{Begins, BeginsNot, BeginsName, BeginsNoName, BeginsQuoted, BeginsNoQuoted, IsNextToken, IsNextClass, free_name, TakesNumber, TakesOperator};
 
 use crate::values::{number_value, operator_named, small_letters, unquoted};
 use pg_value::{Bytes, Op};
@@ -51,10 +51,10 @@ pub struct Cursor<'a> {
 
 impl<'a> Model for Cursor<'a> {
     ghost use Rattle.std.specs.Prelude.{List, drop, ◌≤◌, length, All};
-    ghost use Rattle.sql_grammar.specs.Reading.{IsWithin};
+    ghost use Rattle.sql_grammar.specs.work.Reading.{IsWithin};
     ghost use Rattle.sql_grammar.specs.Terminals.{Terminal};
     ghost use Rattle.sql_grammar.specs.Faults.{terminals};
-    ghost use Rattle.expr_reader.specs.Reading.{HasDigits};
+    ghost use Rattle.expr_reader.specs.work.Reading.{HasDigits};
 
     ghost Value = { List Terminal };
 

@@ -2,20 +2,20 @@
 
 ghost use Rattle.std.specs.Prelude.{◌≡◌, ◌≢◌, ◌≤◌, ◌<◌, true, false, length, List, [], ◌∷◌, ◌++◌, Ok, IfOk, MatchOption};
 ghost use Rattle.pg_expr.specs.Cond.{is_null, is_not_null, const, negation};
-ghost use Rattle.pg_expr.specs.View.{cond, conds};
+ghost use Rattle.pg_expr.specs.work.View.{cond, conds};
 ghost use Rattle.pg_value.specs.declared.operators.Truth.{Truth};
 ghost use Rattle.expr_reader.specs.declared.written.Literal.TheVariants.{Constant as ConstantOf};
 ghost use Rattle.sql_lex.specs.declared.tokens.Token.{Token};
 ghost use Rattle.sql_grammar.specs.declared.class.Word.TheVariants.{Is};
 ghost use Rattle.sql_grammar.specs.Syntax.{Lit};
 ghost use Rattle.sql_grammar.specs.Terminals.{Terminal, t_key};
-ghost use Rattle.sql_grammar.specs.Unique.{ends_operand, ends_atom, ends_conj, ends_expr};
+ghost use Rattle.sql_grammar.specs.work.Unique.{ends_operand, ends_atom, ends_conj, ends_expr};
 ghost use Rattle.sql_grammar.specs.Words.{words_of_expr, words_of_conj, words_of_neg, words_of_atom, words_of_operand, words_of_lit};
-ghost use Rattle.expr_reader.specs.Reading.{BeginsNot, StandsFirst, IfNext, free_name};
+ghost use Rattle.expr_reader.specs.work.Reading.{BeginsNot, StandsFirst, IfNext, free_name};
 ghost use Rattle.expr_reader.specs.Conditions.{flag_column as flag_column_of, or_of as or_of_conds, and_of as and_of_conds};
-ghost use Rattle.expr_reader.specs.Reads.{seen_as};
-ghost use Rattle.expr_reader.specs.Written.{IsNullWords, ReadsNull, ReadsNotNull, ReadsIsNull, ReadsIsNotNull};
-ghost use Rattle.expr_reader.specs.Expressions.{StandsBetween, ReadsBetween, ReadsEquality, StandsAmong, ReadsAmong, ReadsComparison, StandsTail, ReadsTail, ReadsAtom, ReadsNeg, ReadsConj, ReadsExpr};
+ghost use Rattle.expr_reader.specs.work.Reads.{seen_as};
+ghost use Rattle.expr_reader.specs.work.Written.{IsNullWords, ReadsNull, ReadsNotNull, ReadsIsNull, ReadsIsNotNull};
+ghost use Rattle.expr_reader.specs.work.Expressions.{StandsBetween, ReadsBetween, ReadsEquality, StandsAmong, ReadsAmong, ReadsComparison, StandsTail, ReadsTail, ReadsAtom, ReadsNeg, ReadsConj, ReadsExpr};
 
 use crate::comparison::compare;
 use crate::literal::literal;

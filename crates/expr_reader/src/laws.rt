@@ -7,8 +7,9 @@ ghost use Rattle.pg_expr.specs.Columns.{each_column};
 ghost use Rattle.pg_expr.specs.Cond.{Cond};
 ghost use Rattle.pg_expr.specs.Typed.{IsTyped};
 ghost use Rattle.sql_grammar.specs.Syntax.{Expr};
-ghost use Rattle.expr_reader.specs.Conditions.{meaning_of_expr, EachMeaning};
-ghost use Rattle.expr_reader.specs.Parted.{HasParts};
+ghost use Rattle.expr_reader.specs.Conditions.{meaning_of_expr};
+ghost use Rattle.expr_reader.specs.work.Conditions.{EachMeaning};
+ghost use Rattle.expr_reader.specs.work.Parted.{HasParts};
 ghost use Rattle.expr_reader.specs.Scope.{Scope};
 
 /// What an expression means is well typed, and each column that it names is a visible one: a test that all visible columns

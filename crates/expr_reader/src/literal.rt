@@ -5,8 +5,8 @@ ghost use Rattle.sql_grammar.specs.Terminals.{Terminal, Said, t_key, t_number};
 ghost use Rattle.sql_grammar.specs.Syntax.{Constant, Lit};
 ghost use Rattle.sql_grammar.specs.Words.{words_of_lit, constant_word};
 ghost use Rattle.expr_reader.specs.Conditions.{truth_of_constant};
-ghost use Rattle.expr_reader.specs.Written.{literal_of, whole as whole_literal};
-ghost use Rattle.expr_reader.specs.Reading.{YieldsWords, YieldsNext};
+ghost use Rattle.expr_reader.specs.work.Written.{literal_of, whole as whole_literal};
+ghost use Rattle.expr_reader.specs.work.Reading.{YieldsWords, YieldsNext};
 
 use crate::Cursor;
 use crate::written::Literal;

@@ -1,12 +1,12 @@
 //! A side of a comparison: a column that is looked up, or a literal.
 
 ghost use Rattle.std.specs.Prelude.{◌≡◌, ◌≤◌, length, Contains, IfOk};
-ghost use Rattle.sql_grammar.specs.Unique.{ends_operand};
+ghost use Rattle.sql_grammar.specs.work.Unique.{ends_operand};
 ghost use Rattle.sql_grammar.specs.Words.{words_of_col, words_of_operand};
 ghost use Rattle.expr_reader.specs.Conditions.{the_column};
 ghost use Rattle.expr_reader.specs.Scope.{columns_in_scope};
-ghost use Rattle.expr_reader.specs.Reading.{StandsFirst};
-ghost use Rattle.expr_reader.specs.Expressions.{ReadsColumn, ReadsSide, ReadsOperand};
+ghost use Rattle.expr_reader.specs.work.Reading.{StandsFirst};
+ghost use Rattle.expr_reader.specs.work.Expressions.{ReadsColumn, ReadsSide, ReadsOperand};
 
 use crate::Cursor;
 use crate::found::Found;

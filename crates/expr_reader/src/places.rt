@@ -2,7 +2,7 @@
 
 ghost use Rattle.std.specs.Prelude.{◌≡◌, ◌<◌, ℕ, IfSome, None, get_or, length, true};
 ghost use Rattle.std.specs.List.{list_any};
-ghost use Rattle.expr_reader.specs.Places.{HasNoted, HasPut, IsNumbered, first_place, is_it, number_of};
+ghost use Rattle.expr_reader.specs.work.Places.{HasNoted, HasPut, IsNumbered, first_place, is_it, number_of};
 
 use pg_base::{MOST_COLUMNS, MOST_RELATIONS};
 use pg_expr::ColRef;
@@ -30,7 +30,7 @@ impl<'a> Drop for ColumnPlaces<'a> {
 impl<'a> Model for ColumnPlaces<'a> {
     ghost use Rattle.std.specs.Prelude.{List};
     ghost use Rattle.pg_expr.specs.declared.operand.ColRef.{ColRef};
-    ghost use Rattle.expr_reader.specs.Places.{AreFirst};
+    ghost use Rattle.expr_reader.specs.work.Places.{AreFirst};
 
     ghost Value = { List ColRef };
 

@@ -2,16 +2,18 @@
 
 ghost use Rattle.std.specs.Prelude.{◌≡◌, ◌≤◌, ◌^◌, ℕ, length, drop, take, IfOk};
 ghost use Rattle.pg_expr.specs.Typed.{IsTyped};
-ghost use Rattle.pg_expr.specs.View.{cond};
+ghost use Rattle.pg_expr.specs.work.View.{cond};
 ghost use Rattle.sql_lex.specs.Words.{AreWords};
-ghost use Rattle.sql_grammar.specs.Faults.{terminals, EndsAt, IsExpr};
+ghost use Rattle.sql_grammar.specs.Faults.{terminals};
+ghost use Rattle.sql_grammar.specs.work.Faults.{EndsAt, IsExpr};
 ghost use Rattle.sql_grammar.specs.Syntax.{Expr as ExprTree};
-ghost use Rattle.sql_grammar.specs.Unique.{ends_expr};
+ghost use Rattle.sql_grammar.specs.work.Unique.{ends_expr};
 ghost use Rattle.sql_grammar.specs.Words.{words_of_expr};
-ghost use Rattle.expr_reader.specs.Conditions.{meaning_of_expr, IsOfVisible};
-ghost use Rattle.expr_reader.specs.Reads.{IsReadAs};
-ghost use Rattle.expr_reader.specs.Reading.{StandsFirst};
-ghost use Rattle.expr_reader.specs.Expressions.{ReadsExpr};
+ghost use Rattle.expr_reader.specs.Conditions.{meaning_of_expr};
+ghost use Rattle.expr_reader.specs.work.Conditions.{IsOfVisible};
+ghost use Rattle.expr_reader.specs.work.Reads.{IsReadAs};
+ghost use Rattle.expr_reader.specs.work.Reading.{StandsFirst};
+ghost use Rattle.expr_reader.specs.work.Expressions.{ReadsExpr};
 
 use crate::Cursor;
 use crate::expr::disjunction;

@@ -2,8 +2,9 @@
 
 ghost use Rattle.std.specs.Prelude.{◌≤◌, length};
 ghost use Rattle.sql_grammar.specs.Words.{words_of_direction, words_of_nulls_end};
-ghost use Rattle.expr_reader.specs.Sorts.{is_descending, has_nulls_first, ends_direction, ends_nulls_end};
-ghost use Rattle.expr_reader.specs.Reading.{Yields};
+ghost use Rattle.expr_reader.specs.Sorts.{is_descending, has_nulls_first};
+ghost use Rattle.expr_reader.specs.work.Sorts.{ends_direction, ends_nulls_end};
+ghost use Rattle.expr_reader.specs.work.Reading.{Yields};
 
 use crate::cursor::Cursor;
 use sql_grammar::{Free, Word};

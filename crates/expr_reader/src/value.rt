@@ -8,10 +8,11 @@ ghost use Rattle.sql_lex.specs.declared.tokens.Token.{Token};
 ghost use Rattle.sql_grammar.specs.Terminals.{Terminal};
 ghost use Rattle.sql_grammar.specs.Syntax.{Lit};
 ghost use Rattle.sql_grammar.specs.Words.{words_of_lit};
-ghost use Rattle.expr_reader.specs.Literals.{value_or_fault, literal_value as literal_value_of, typed_value as typed_value_of, number_as as number_as_of, flag_as as flag_as_of, place_of_lit, IfCapped};
-ghost use Rattle.expr_reader.specs.Written.{literal_of};
-ghost use Rattle.expr_reader.specs.Reading.{IfWords};
-ghost use Rattle.expr_reader.specs.Expressions.{ReadsLiteral};
+ghost use Rattle.expr_reader.specs.Literals.{value_or_fault, literal_value as literal_value_of, typed_value as typed_value_of, number_as as number_as_of, flag_as as flag_as_of, place_of_lit};
+ghost use Rattle.expr_reader.specs.work.Literals.{IfCapped};
+ghost use Rattle.expr_reader.specs.work.Written.{literal_of};
+ghost use Rattle.expr_reader.specs.work.Reading.{IfWords};
+ghost use Rattle.expr_reader.specs.work.Expressions.{ReadsLiteral};
 
 use crate::literal::literal;
 use crate::written::Literal;

@@ -4,7 +4,8 @@ ghost use Rattle.std.specs.Prelude.{◌≡◌, ◌≤◌, ◌-◌, ◌^◌, min,
 ghost use Rattle.std.specs.Char.{to_ascii_lowercase};
 ghost use Rattle.std.specs.Str.Parse.{digits_value};
 ghost use Rattle.pg_value.specs.Fields.{is_numeral};
-ghost use Rattle.sql_grammar.specs.Reading.{value_of_quoted, bytes_of_token, IsWithin};
+ghost use Rattle.sql_grammar.specs.Reading.{value_of_quoted, bytes_of_token};
+ghost use Rattle.sql_grammar.specs.work.Reading.{IsWithin};
 ghost use Rattle.expr_reader.specs.Operators.{operator_of};
 
 use pg_value::{Bytes, Op, read_digits};

@@ -4,18 +4,20 @@ use Rattle.std.specs.Prelude.{Option, Some, None, option_map}
 use Rattle.std.specs.Option.{option_copied}
 use Rattle.catalog.specs.Contents.{Contents}
 use Rattle.plan_tree.specs.declared.path.Path.{Path as Costed}
-use Rattle.plan_tree.specs.Paths.{Path}
-use Rattle.plan_tree.specs.Views.{path}
+use Rattle.plan_tree.specs.work.Paths.{Path}
+use Rattle.plan_tree.specs.work.Views.{path}
 use Rattle.sql_query.specs.Grouped.{GroupedQuery}
 use Rattle.sql_query.specs.WellBound.{IsWellBound}
 use Rattle.group_values.specs.declared.form.Form.{Form}
 use Rattle.group_values.specs.declared.form.Form.TheVariants.{Sorted, Hashed}
-use Rattle.group_values.specs.Choice.{input_of}
+use Rattle.group_values.specs.work.Choice.{input_of}
 use Rattle.group_values.specs.declared.task.GroupPlan.{GroupPlan}
 use Rattle.group_values.specs.declared.task.GroupTask.{GroupTask}
-use Rattle.group_explain.specs.GroupPlans.{AreInputs, GroupQuery, IsBestOf, IsLeastGroupPlan, IsTaskOf}
+use Rattle.group_explain.specs.GroupPlans.{GroupQuery, IsTaskOf}
+use Rattle.group_explain.specs.work.GroupPlans.{AreInputs, IsBestOf, IsLeastGroupPlan}
 use Rattle.group_query.specs.Grouping.{IsWellGrouped, group_items}
-use Rattle.group_explain.specs.Plans.{HasNoGroupPlan, IsChosen, input_base, over_base}
+use Rattle.group_explain.specs.Plans.{HasNoGroupPlan}
+use Rattle.group_explain.specs.work.Plans.{IsChosen, input_base, over_base}
 use Rattle.group_explain.specs.Texts.{group_query}
 use Rattle.group_explain.specs.declared.chosen.Chosen.{Chosen}
 use Rattle.group_explain.proofs.LeastLemmas.{chosen, inputs, some-input}

@@ -1,21 +1,22 @@
 -- The costs in the text of a chosen plan.
 use Rattle.std.proofs.Common.{◌≡◌, ℕ, ◌<◌, ◌≤◌, Bool, true, false, cond, sym, subst, ap, ◌∙◌, arith}
 use Rattle.catalog.specs.Contents.{Contents}
-use Rattle.cost_rules.specs.Costs.{capped, pair, sort_cost}
+use Rattle.cost_rules.specs.Costs.{pair, sort_cost}
+use Rattle.cost_rules.specs.work.Costs.{capped}
 use Rattle.cost_rules.specs.declared.parameters.TheConstants.{MOST_COST}
 use Rattle.cost_rules.proofs.RisingLemmas.{sort-child}
 use Rattle.sql_query.specs.Grouped.{GroupedQuery}
 use Rattle.plan_tree.specs.Costs.{cost}
 use Rattle.plan_tree.specs.Least.{IsAdmissible}
-use Rattle.plan_tree.specs.Paths.{IsFinishedPath}
+use Rattle.plan_tree.specs.work.Paths.{IsFinishedPath}
 use Rattle.plan_tree.specs.Plans.{Plan}
-use Rattle.plan_tree.specs.Views.{path}
+use Rattle.plan_tree.specs.work.Views.{path}
 use Rattle.group_values.specs.declared.form.Form.{Form}
 use Rattle.group_values.specs.GroupCosts.{group_cost, group_total, groups_of, sorts_after}
 use Rattle.group_values.specs.declared.task.GroupTask.{GroupTask}
 use Rattle.group_values.proofs.CostLemmas.{total-input}
 use Rattle.group_explain.specs.GroupPlans.{plan_total}
-use Rattle.group_explain.specs.Plans.{IsReady, input_base}
+use Rattle.group_explain.specs.work.Plans.{IsReady, input_base}
 use Rattle.group_explain.specs.Texts.{group_query, input_total}
 use Rattle.group_explain.specs.declared.chosen.Chosen.{Chosen}
 use Rattle.group_values.proofs.CostLemmas.{child-by}

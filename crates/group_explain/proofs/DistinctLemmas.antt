@@ -13,7 +13,8 @@ use Rattle.eq_classes.specs.Classes.{Class}
 use Rattle.eq_classes.specs.Clauses.{first_in}
 use Rattle.eq_classes.specs.Listing.{blank, class_at}
 use Rattle.eq_classes.proofs.ListLemmas.{IsIn, found_in, in_from_contains}
-use Rattle.path_cost.specs.Columns.{AreTables, is_column_in, known_statistics, stats_or}
+use Rattle.path_cost.specs.Columns.{known_statistics, stats_or}
+use Rattle.path_cost.specs.work.Columns.{AreTables, is_column_in}
 use Rattle.path_cost.proofs.ColumnLemmas.{column_laws, stats_lawful, unknown_lawful}
 use Rattle.path_cost.proofs.LimitLemmas.{rows-some}
 use Rattle.plan_laws.proofs.WellBoundLemmas.{bound-over}

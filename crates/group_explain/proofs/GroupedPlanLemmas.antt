@@ -7,18 +7,19 @@ use Rattle.cost_rules.specs.declared.parameters.TheConstants.{MOST_COST}
 use Rattle.sql_query.specs.Queries.{Query}
 use Rattle.plan_tree.specs.declared.path.Path.{Path as Costed}
 use Rattle.plan_tree.specs.Costs.{cost, price, price_by}
-use Rattle.plan_tree.specs.Paths.{Path}
+use Rattle.plan_tree.specs.work.Paths.{Path}
 use Rattle.plan_tree.specs.Plans.{Plan}
 use Rattle.plan_tree.specs.Space.{IsFinished}
-use Rattle.plan_tree.specs.Views.{path}
+use Rattle.plan_tree.specs.work.Views.{path}
 use Rattle.group_values.specs.declared.form.Form.{Form}
 use Rattle.group_values.specs.declared.form.Form.TheVariants.{Sorted, Hashed}
 use Rattle.group_values.specs.declared.task.GroupPlan.{GroupPlan}
 use Rattle.group_values.specs.declared.task.GroupTask.{GroupTask}
-use Rattle.group_values.specs.Choice as choice
-use Rattle.group_values.specs.Choice.{input_of}
+use Rattle.group_values.specs.work.Choice as choice
+use Rattle.group_values.specs.work.Choice.{input_of}
 use Rattle.group_values.specs.GroupCosts.{group_total, is_offered}
-use Rattle.group_explain.specs.GroupPlans.{AreInputs, GroupQuery, IsBestOf, IsGroupPlan, IsLeastGroupPlan, input_query, plan_total}
+use Rattle.group_explain.specs.GroupPlans.{GroupQuery, IsGroupPlan, input_query, plan_total}
+use Rattle.group_explain.specs.work.GroupPlans.{AreInputs, IsBestOf, IsLeastGroupPlan}
 
 abbrev total_kept : Option Path → Option ℕ
 total_kept o = option_map (λ (p : Path). p.cost) o

@@ -6,19 +6,20 @@ use Rattle.sql_query.specs.Grouped.{GroupedQuery}
 use Rattle.sql_query.specs.Queries.{Query, in_order_of}
 use Rattle.plan_tree.specs.Costs.{cost, price, price_by}
 use Rattle.plan_tree.specs.Least.{IsAdmissible, IsBestPlan}
-use Rattle.plan_tree.specs.Paths.{IsFinishedPath, Path}
+use Rattle.plan_tree.specs.work.Paths.{IsFinishedPath, Path}
 use Rattle.plan_tree.specs.Plans.{Plan}
 use Rattle.plan_tree.specs.Space.{IsFinished}
-use Rattle.plan_tree.specs.Views.{path}
+use Rattle.plan_tree.specs.work.Views.{path}
 use Rattle.group_values.specs.declared.form.Form.{Form}
 use Rattle.group_values.specs.declared.form.Form.TheVariants.{Sorted, Hashed}
-use Rattle.group_values.specs.Choice.{input_of}
+use Rattle.group_values.specs.work.Choice.{input_of}
 use Rattle.group_values.specs.declared.task.GroupPlan.{GroupPlan}
 use Rattle.group_values.specs.declared.task.GroupTask.{GroupTask}
 use Rattle.group_values.proofs.CostLemmas.{total-input, total-rises}
-use Rattle.group_explain.specs.GroupPlans.{AreInputs, GroupQuery, IsBestOf, IsGroupPlan, IsLeastOf, IsTaskOf, input_query, plan_total}
+use Rattle.group_explain.specs.GroupPlans.{GroupQuery, IsGroupPlan, IsLeastOf, IsTaskOf, input_query, plan_total}
+use Rattle.group_explain.specs.work.GroupPlans.{AreInputs, IsBestOf}
 use Rattle.group_query.specs.Grouping.{IsWellGrouped, group_items}
-use Rattle.group_explain.specs.Plans.{IsChosen}
+use Rattle.group_explain.specs.work.Plans.{IsChosen}
 use Rattle.group_explain.specs.Texts.{group_query}
 use Rattle.group_explain.specs.declared.chosen.Chosen.{Chosen}
 use Rattle.group_explain.proofs.OrderLemmas.{no-order}

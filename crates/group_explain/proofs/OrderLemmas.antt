@@ -9,18 +9,19 @@ use Rattle.eq_classes.specs.declared.order.OrderItem.{OrderItem}
 use Rattle.sql_query.specs.Grouped.{GroupedQuery}
 use Rattle.sql_query.specs.Queries.{Query, all_of_query, in_order_of}
 use Rattle.sql_query.specs.WellBound.{IsWellBound}
-use Rattle.plan_tree.specs.Paths.{IsFinishedPath}
+use Rattle.plan_tree.specs.work.Paths.{IsFinishedPath}
 use Rattle.plan_tree.specs.Plans.{Plan}
-use Rattle.plan_tree.specs.Views.{path}
+use Rattle.plan_tree.specs.work.Views.{path}
 use Rattle.group_values.specs.declared.form.Form.{Form}
 use Rattle.group_values.specs.declared.form.Form.TheVariants.{Sorted, Hashed}
-use Rattle.group_values.specs.GroupCosts.{IsTask, sorts_after}
+use Rattle.group_values.specs.GroupCosts.{sorts_after}
+use Rattle.group_values.specs.work.GroupCosts.{IsTask}
 use Rattle.group_values.specs.declared.task.GroupPlan.{GroupPlan}
 use Rattle.group_values.specs.declared.task.GroupTask.{GroupTask}
 use Rattle.pathkeys.specs.Keys.{covers}
 use Rattle.group_explain.specs.GroupPlans.{IsGroupPlan, IsLeastOf, IsTaskOf, distinct_in, distinct_of, form_keys, group_keys, input_query, line_keys, plan_total}
 use Rattle.group_query.specs.Grouping.{IsWellGrouped, group_items}
-use Rattle.group_explain.specs.Plans.{IsChosen, IsReady, input_base, over_base}
+use Rattle.group_explain.specs.work.Plans.{IsChosen, IsReady, input_base, over_base}
 use Rattle.group_explain.specs.Texts.{group_query}
 use Rattle.group_explain.specs.declared.chosen.Chosen.{Chosen}
 

@@ -6,9 +6,9 @@ use Rattle.catalog.specs.Contents.{Contents}
 use Rattle.catalog.specs.Range.{Range}
 use Rattle.eq_classes.specs.declared.classes.ClassNo.{ClassNo}
 use Rattle.eq_classes.specs.Clauses.{Clause, Set, ClassTable}
-use Rattle.path_cost.specs.Columns.{IsOver}
+use Rattle.path_cost.specs.work.Columns.{IsOver}
 use Rattle.path_cost.specs.Estimates.{set_rows}
-use Rattle.pathkeys.specs.Finding.{class_numbers}
+use Rattle.pathkeys.specs.work.Finding.{class_numbers}
 use Rattle.pathkeys.specs.Keys.{Keys, covers}
 use Rattle.sql_query.specs.Queries.{Query, all_of_query}
 use Rattle.plan_tree.specs.Costs.{query_rows}
@@ -17,7 +17,8 @@ use Rattle.group_values.specs.declared.form.Form.{Form}
 use Rattle.group_values.specs.declared.form.Form.TheVariants.{Sorted, Hashed}
 use Rattle.group_values.specs.declared.task.GroupTask.{GroupTask}
 use Rattle.group_values.specs.GroupCosts.{sorts_after}
-use Rattle.group_explain.specs.GroupPlans.{GroupQuery, IsAskedBy, IsTaskOf, distinct_of, form_keys, group_keys, line_keys}
+use Rattle.group_explain.specs.GroupPlans.{GroupQuery, IsTaskOf, distinct_of, form_keys, group_keys, line_keys}
+use Rattle.group_explain.specs.work.GroupPlans.{IsAskedBy}
 
 pub rows-are : (c : Contents) (q : Query) (range : Range) (classes : ClassTable) (s : Set) (n : ℕ) → n ≡ set_rows c range classes s → range ≡ q.range → classes ≡ q.classes → IsSameSet s (all_of_query q) → n ≡ query_rows c q
 rows-are c q range classes s n e f g same =

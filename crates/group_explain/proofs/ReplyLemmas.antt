@@ -5,14 +5,16 @@ use Rattle.std.specs.Io.KnownBytes.{Appends}
 use Rattle.pg_base.specs.Writing.{AppendsPrefix}
 use Rattle.catalog.specs.Contents.{Contents}
 use Rattle.sql_query.specs.Grouped.{GroupedQuery}
-use Rattle.plan_tree.specs.Views.{path}
+use Rattle.plan_tree.specs.work.Views.{path}
 use Rattle.reply.specs.Effort.{exactly}
-use Rattle.reply.specs.Replies.{HasBegun, HasReplied, Leaves, Reply, Traces, traces}
-use Rattle.reply.specs.Stops.{stop_by}
+use Rattle.reply.specs.Replies.{HasBegun, HasReplied, Reply, Traces, traces}
+use Rattle.reply.specs.work.Replies.{Leaves}
+use Rattle.reply.specs.work.Stops.{stop_by}
 use Rattle.reply.specs.declared.stop.Broken.{Broken}
 use Rattle.reply.specs.declared.stop.Broken.TheVariants.{Write, Memory}
 use Rattle.reply.specs.declared.stop.Stop.{Stop}
-use Rattle.group_explain.specs.Plans.{IsChosen, IsGroupExplanation, IsGroupedExplanationOf}
+use Rattle.group_explain.specs.Plans.{IsGroupExplanation, IsGroupedExplanationOf}
+use Rattle.group_explain.specs.work.Plans.{IsChosen}
 use Rattle.group_explain.specs.Texts.{group_plan_text}
 use Rattle.group_explain.specs.declared.chosen.Chosen.{Chosen}
 

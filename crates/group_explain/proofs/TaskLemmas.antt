@@ -11,9 +11,10 @@ use Rattle.eq_classes.specs.Classes.{Class}
 use Rattle.eq_classes.specs.Clauses.{Set, ClassTable, first_in}
 use Rattle.eq_classes.specs.Listing.{blank, class_at}
 use Rattle.eq_classes.specs.declared.classes.ClassNo.{ClassNo}
-use Rattle.pathkeys.specs.Finding.{class_numbers}
+use Rattle.pathkeys.specs.work.Finding.{class_numbers}
 use Rattle.eq_classes.proofs.ListLemmas.{IsIn, found_in, in_from_contains}
-use Rattle.path_cost.specs.Columns.{AreTables, is_column_in, stats_of}
+use Rattle.path_cost.specs.Columns.{stats_of}
+use Rattle.path_cost.specs.work.Columns.{AreTables, is_column_in}
 use Rattle.reply.specs.plan_laws_WellBoundLemmas.{bound-over}
 use Rattle.plan_tree.specs.Space.{IsSameSet}
 use Rattle.sort_rows.proofs.ColumnLemmas.{member_is}

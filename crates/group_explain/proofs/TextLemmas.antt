@@ -12,7 +12,7 @@ use Rattle.pathkeys.specs.Keys.{Keys}
 use Rattle.pathkeys.proofs.OnceLemmas.{order_keys_are_keys}
 use Rattle.plan_tree.specs.Costs.{cost}
 use Rattle.plan_tree.specs.Plans.{Plan}
-use Rattle.plan_tree.specs.Views.{path}
+use Rattle.plan_tree.specs.work.Views.{path}
 use Rattle.sql_query.specs.Grouped.{GroupedQuery}
 use Rattle.sql_query.specs.Queries.{all_of_query, in_order_of}
 use Rattle.group_values.specs.declared.form.Form.{Form}
@@ -20,7 +20,7 @@ use Rattle.group_values.specs.GroupCosts.{group_cost}
 use Rattle.group_values.specs.declared.task.GroupPlan.{GroupPlan}
 use Rattle.group_values.specs.declared.task.GroupTask.{GroupTask}
 use Rattle.group_explain.specs.GroupPlans.{group_keys, line_keys}
-use Rattle.group_explain.specs.Plans.{IsReady, input_base, over_base}
+use Rattle.group_explain.specs.work.Plans.{IsReady, input_base, over_base}
 use Rattle.group_explain.specs.Texts.{all_keys_text, form_name, group_plan_text, group_query, group_title, input_depth, input_total, lines_above, sort_line, title_by}
 use Rattle.group_explain.specs.declared.chosen.Chosen.{Chosen}
 use Rattle.group_explain.proofs.OrderLemmas.{asked, base-for, order_for, same-input}

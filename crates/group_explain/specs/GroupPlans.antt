@@ -11,15 +11,12 @@ use Rattle.path_cost.specs.Columns.{stats_of}
 use Rattle.pathkeys.specs.Keys.{Keys, covers, order_keys}
 use Rattle.sql_query.specs.Queries.{Query, all_of_query, in_order_of}
 use Rattle.plan_tree.specs.Costs.{cost, query_rows}
-use Rattle.plan_tree.specs.Least.{IsAdmissible, IsBestPlan}
-use Rattle.plan_tree.specs.Paths.{Path, IsFinishedPath}
 use Rattle.plan_tree.specs.Plans.{Plan}
 use Rattle.plan_tree.specs.Space.{IsFinished}
 use Rattle.group_values.specs.declared.form.Form.{Form}
 use Rattle.group_values.specs.declared.form.Form.TheVariants.{Sorted, Hashed}
 use Rattle.group_values.specs.declared.task.GroupPlan.{GroupPlan}
 use Rattle.group_values.specs.declared.task.GroupTask.{GroupTask}
-use Rattle.group_values.specs.Choice.{input_of}
 use Rattle.group_values.specs.GroupCosts.{group_total, groups_of, is_offered, sorts_after}
 
 -- a query whose tuples are grouped: the relations with their conditions and classes, the GROUP BY columns as items of an order,
@@ -37,12 +34,6 @@ group_keys g = order_keys g.base.classes g.groups
 -- the classes by which lines are sorted: those of ORDER BY
 abbrev pub line_keys : GroupQuery → Keys
 line_keys g = order_keys g.base.classes g.lines
-
--- the keys and the calls are those of a grouped query
-pub record IsAskedBy (g : GroupQuery) (of_groups of_lines : Keys) (number : ℕ) : Type 0 where
-  pub groups : of_groups ≡ group_keys g
-  pub lines : of_lines ≡ line_keys g
-  pub calls : number ≡ g.calls
 
 -- how many different values a column is taken to have; a class without a member is taken to have one
 abbrev pub distinct_in : Contents → Query → Option ColRef → ℕ
@@ -80,17 +71,6 @@ pub record IsGroupPlan (c : Contents) (g : GroupQuery) (t : GroupTask) (form : F
   pub input : IsFinished c (input_query form g) p
   pub admissible : plan_total c g t form p < MOST_COST
 
--- the best plan of a query, none where no finished one is admissible
-abbrev pub IsBestOf : Contents → Query → Option Path → Type 0
-IsBestOf c q None = (p : Plan) → IsFinished c q p → ¬ IsAdmissible c q p
-IsBestOf c q (Some best) = IsFinishedPath c q best × IsBestPlan c q best.tree
-
--- the numbers of a query without a window, and its best plans in no order and in the order of the group keys
-pub record AreInputs (c : Contents) (g : GroupQuery) (t : GroupTask) (plain sorted : Option Path) : Type 0 where
-  pub whole : g.base.window ≡ None
-  pub task : IsTaskOf c g t
-  pub best : (form : Form) → IsBestOf c (input_query form g) (input_of form plain sorted)
-
 -- a plan that groups with its cost and its groups, and no plan that groups costs less
 pub record IsLeastOf (c : Contents) (g : GroupQuery) (t : GroupTask) (chosen : GroupPlan) : Type 0 where
   pub plan : Plan
@@ -99,8 +79,3 @@ pub record IsLeastOf (c : Contents) (g : GroupQuery) (t : GroupTask) (chosen : G
   pub sort_after : chosen.sort_after ≡ not (covers (form_keys chosen.form g) (line_keys g))
   pub rows : chosen.rows ≡ groups_of t
   pub least : (form : Form) (other : Plan) → IsGroupPlan c g t form other → chosen.cost ≤ plan_total c g t form other
-
--- the choice is such a plan, none exactly where there is none
-abbrev pub IsLeastGroupPlan : Contents → GroupQuery → GroupTask → Option GroupPlan → Type 0
-IsLeastGroupPlan c g t None = (form : Form) (p : Plan) → ¬ IsGroupPlan c g t form p
-IsLeastGroupPlan c g t (Some chosen) = IsLeastOf c g t chosen

@@ -49,10 +49,6 @@ module _ (c : Contents) (g : GroupedQuery) where
   abbrev pub group_line : ℕ → List ℕ → ℕ → ℕ → List ℕ
   group_line d title total rows = lead d ++ (title ++ figures_text (decimal total) rows)
 
-  -- what the line of the node that groups says, with a total
-  abbrev pub titled_line : GroupPlan → ℕ → List ℕ
-  titled_line chosen total = group_title chosen.form ++ figures_text (decimal total) chosen.rows
-
   -- the total of the input of a plan that groups
   abbrev pub input_total : Form → Plan → ℕ
   input_total form p = (cost c (input_query form (group_query g)) p).total

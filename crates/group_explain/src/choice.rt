@@ -4,14 +4,16 @@ ghost use Rattle.std.specs.Prelude.{◌≡◌, ◌≢◌, IfErr, IfOk, None, Som
 ghost use Rattle.catalog.specs.Contents.{Contents};
 ghost use Rattle.sql_query.specs.Queries.{in_order_of};
 ghost use Rattle.sql_query.specs.WellBound.{IsWellBound};
-ghost use Rattle.plan_tree.specs.Views.{path};
+ghost use Rattle.plan_tree.specs.work.Views.{path};
 ghost use Rattle.group_values.specs.declared.form.Form.TheVariants.{Sorted as SortedForm};
-ghost use Rattle.group_values.specs.Choice.{input_of};
-ghost use Rattle.group_values.specs.GroupCosts.{IsTask};
-ghost use Rattle.group_explain.specs.GroupPlans.{AreInputs, GroupQuery, IsBestOf, IsLeastGroupPlan};
+ghost use Rattle.group_values.specs.work.Choice.{input_of};
+ghost use Rattle.group_values.specs.work.GroupCosts.{IsTask};
+ghost use Rattle.group_explain.specs.GroupPlans.{GroupQuery};
+ghost use Rattle.group_explain.specs.work.GroupPlans.{AreInputs, IsBestOf, IsLeastGroupPlan};
 ghost use Rattle.group_query.specs.Grouping as grouping;
 ghost use Rattle.group_query.specs.Grouping.{IsWellGrouped};
-ghost use Rattle.group_explain.specs.Plans.{HasNoGroupPlan, IsChosen, IsReady, input_base, over_base};
+ghost use Rattle.group_explain.specs.Plans.{HasNoGroupPlan};
+ghost use Rattle.group_explain.specs.work.Plans.{IsChosen, IsReady, input_base, over_base};
 
 use crate::choose_plan;
 use crate::chosen::Chosen;

@@ -2,9 +2,10 @@
 
 ghost use Rattle.std.specs.Prelude.{◌≡◌, option_map};
 ghost use Rattle.catalog.specs.Contents.{Contents};
-ghost use Rattle.plan_tree.specs.Views.{path};
-ghost use Rattle.group_values.specs.GroupCosts.{IsTask};
-ghost use Rattle.group_explain.specs.GroupPlans.{AreInputs, GroupQuery, IsLeastGroupPlan};
+ghost use Rattle.plan_tree.specs.work.Views.{path};
+ghost use Rattle.group_values.specs.work.GroupCosts.{IsTask};
+ghost use Rattle.group_explain.specs.GroupPlans.{GroupQuery};
+ghost use Rattle.group_explain.specs.work.GroupPlans.{AreInputs, IsLeastGroupPlan};
 
 use group_values::{GroupPlan, GroupTask, choose};
 use plan_tree::Path;

@@ -2,6 +2,7 @@
 
 ghost use Rattle.std.specs.Prelude.{◌≡◌, IfOk};
 ghost use Rattle.group_explain.specs.GroupPlans as plans;
+ghost use Rattle.group_explain.specs.work.GroupPlans as plans_work;
 ghost use Rattle.group_query.specs.Grouping as grouping;
 ghost use Rattle.group_explain.specs.Texts.{group_query};
 

@@ -5,8 +5,9 @@ ghost use Rattle.pg_base.specs.Sets.{has};
 ghost use Rattle.sql_query.specs.Queries.{all_of_query};
 ghost use Rattle.sql_query.specs.WellBound.{IsWellBound};
 ghost use Rattle.plan_tree.specs.Space.{IsSameSet};
-ghost use Rattle.group_values.specs.GroupCosts.{IsTask};
-ghost use Rattle.group_explain.specs.GroupPlans.{GroupQuery, IsAskedBy, IsTaskOf, distinct_of};
+ghost use Rattle.group_values.specs.work.GroupCosts.{IsTask};
+ghost use Rattle.group_explain.specs.GroupPlans.{GroupQuery, IsTaskOf, distinct_of};
+ghost use Rattle.group_explain.specs.work.GroupPlans.{IsAskedBy};
 
 use catalog::Catalog;
 use group_values::GroupTask;

@@ -4,8 +4,9 @@ ghost use Rattle.std.specs.Prelude.{◌≡◌, IfErr, OnErr, OnOk};
 ghost use Rattle.sql_query.specs.Grouped.{GroupedQuery};
 ghost use Rattle.group_query.specs.Grouping.{IsWellGrouped};
 ghost use Rattle.reply.specs.Putting.{HasWriteCause};
-ghost use Rattle.reply.specs.Replies.{HasBegunPrinting, HasPrinted, LeavesPrinted};
-ghost use Rattle.group_explain.specs.Plans.{HasNoGroupPlan, IsChosen, IsGroupedExplanationOf, IsOverInput, IsReady};
+ghost use Rattle.reply.specs.work.Replies.{HasBegunPrinting, HasPrinted, LeavesPrinted};
+ghost use Rattle.group_explain.specs.Plans.{HasNoGroupPlan, IsGroupedExplanationOf};
+ghost use Rattle.group_explain.specs.work.Plans.{IsChosen, IsOverInput, IsReady};
 
 use crate::choice::choose_groups;
 use crate::chosen::Chosen;

@@ -2,12 +2,13 @@
 
 ghost use Rattle.std.specs.Prelude.{◌≡◌, ◌<◌, All, IfOk, length, map};
 ghost use Rattle.pg_base.specs.Sets.{has};
-ghost use Rattle.pathkeys.specs.Finding.{class_numbers};
+ghost use Rattle.pathkeys.specs.work.Finding.{class_numbers};
 ghost use Rattle.sql_query.specs.Queries.{all_of_query};
 ghost use Rattle.sql_query.specs.WellBound.{IsWellBound};
 ghost use Rattle.plan_tree.specs.Space.{IsSameSet};
-ghost use Rattle.group_values.specs.GroupCosts.{IsTask};
+ghost use Rattle.group_values.specs.work.GroupCosts.{IsTask};
 ghost use Rattle.group_explain.specs.GroupPlans as plans;
+ghost use Rattle.group_explain.specs.work.GroupPlans as plans_work;
 ghost use Rattle.group_explain.specs.GroupPlans.{IsTaskOf, distinct_of};
 ghost use Rattle.group_explain.specs.Texts.{group_query};
 

@@ -6,8 +6,10 @@ ghost use Rattle.reply.specs.explain_Texts.{figures_text};
 ghost use Rattle.sql_query.specs.Grouped.{GroupedQuery};
 ghost use Rattle.sql_query.specs.WellBound.{IsWellBound};
 ghost use Rattle.group_explain.specs.GroupPlans as plans;
-ghost use Rattle.group_explain.specs.Plans.{IsOverInput, IsReady, chosen_lines, chosen_text};
+ghost use Rattle.group_explain.specs.work.GroupPlans as plans_work;
+ghost use Rattle.group_explain.specs.work.Plans.{IsOverInput, IsReady, chosen_lines, chosen_text};
 ghost use Rattle.group_explain.specs.Texts as texts;
+ghost use Rattle.group_explain.specs.work.Texts as texts_work;
 ghost use Rattle.group_explain.specs.Texts.{group_query, input_depth as depth_of};
 
 use crate::chosen::Chosen;
@@ -83,7 +85,7 @@ fn put_group_line(
 ) -> Result<(), Memory>
     requires bound { IsWellBound cat.now g.now.base }
     ensures { OnOk result
-        (text.new.items ≡ text.old.items ++ texts.titled_line cat.now g.now x.now.plan total) }
+        (text.new.items ≡ text.old.items ++ texts_work.titled_line cat.now g.now x.now.plan total) }
 {
     let keys = group_keys(alloc, g)?;
     put_group_title(text, cat, g, x.plan.form, &keys)?;

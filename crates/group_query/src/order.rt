@@ -3,6 +3,7 @@
 ghost use Rattle.std.specs.Prelude.{◌≡◌, IfOk};
 ghost use Rattle.group_query.specs.Grouping as grouping;
 ghost use Rattle.pathkeys.specs.Keys as keys;
+ghost use Rattle.pathkeys.specs.work.Keys as keys_work;
 
 use eq_classes::{Classes, OrderItem};
 use pathkeys::order_class;

@@ -9,12 +9,12 @@ use Rattle.pg_expr.specs.declared.operand.ColRef.{ColRef}
 use Rattle.expr_reader.specs.Lists.{before_all, bound_each}
 use Rattle.expr_reader.specs.Conditions.{next}
 use Rattle.expr_reader.specs.Scope.{Scope}
-use Rattle.query_reader.specs.Adds.{Adds}
-use Rattle.query_reader.specs.Conveys.{Conveys}
+use Rattle.query_reader.specs.work.Adds.{Adds}
+use Rattle.query_reader.specs.work.Conveys.{Conveys}
 use Rattle.group_reader.specs.declared.parts.Part.{Part}
 use Rattle.group_reader.specs.declared.written.Listed.{Listed}
-use Rattle.group_reader.specs.Adds.{AddsParts}
-use Rattle.group_reader.specs.Meaning.{list_said, listed_said, then_parts}
+use Rattle.group_reader.specs.work.Adds.{AddsParts}
+use Rattle.group_reader.specs.work.Meaning.{list_said, listed_said, then_parts}
 
 -- what is added after a call that succeeds
 pub record Added (x : Result (List Part) Fault) (old new : List Part) : Type 0 where

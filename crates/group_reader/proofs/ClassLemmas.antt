@@ -8,7 +8,7 @@ use Rattle.pg_value.specs.declared.operators.Family.{Family}
 use Rattle.pg_value.specs.declared.operators.Family.TheVariants as families
 use Rattle.pg_value.specs.declared.value.SqlType.{SqlType}
 use Rattle.pg_value.specs.declared.value.SqlType.TheVariants.{Int2, Int4, Int8, Text as TextType, Bool as BoolType}
-use Rattle.pg_value.specs.Order.{IsOfFamily}
+use Rattle.pg_value.specs.work.Order.{IsOfFamily}
 use Rattle.pg_value.specs.Types.{IsOfType}
 use Rattle.opfamily.specs.Answers.{default_family_of}
 use Rattle.pg_expr.specs.declared.operand.ColRef.{ColRef}

@@ -7,15 +7,17 @@ use Rattle.pg_base.specs.declared.faults.Refusal.{Refusal}
 use Rattle.pg_base.specs.declared.faults.Refusal.TheVariants as refusal
 use Rattle.sql_lex.specs.declared.tokens.Token.{Token}
 use Rattle.sql_grammar.specs.declared.offered.TheConstants.{READS_GROUPS}
-use Rattle.sql_grammar.specs.Faults.{AreWithinLimits, IsWhole, limit_of, terminals}
+use Rattle.sql_grammar.specs.Faults.{AreWithinLimits, limit_of, terminals}
+use Rattle.sql_grammar.specs.work.Faults.{IsWhole}
 use Rattle.sql_grammar.specs.Reading.{terminal_of}
 use Rattle.sql_grammar.specs.Spelled.{IsSpelled}
 use Rattle.sql_grammar.specs.Syntax.{GroupedSelect, IsOffered, MaybeExplain, explained, unexplained, select_from, WindowedSelect, windowed_select, no_explain, OrderedSelect, ordered_select, Ending, grouped, query}
 use Rattle.sql_grammar.specs.Words.{words_of}
 use Rattle.catalog.specs.Contents.{Contents}
 use Rattle.query_reader.specs.Binding.{Bound, bound, bound_part, query_with}
-use Rattle.query_reader.specs.Parts.{HaveSelectAt, IsSelectAt, as_statement}
-use Rattle.query_reader.specs.Select.{AreGrouped, AreSelect, IsBoundAs, begins_select, words_before}
+use Rattle.query_reader.specs.work.Parts.{HaveSelectAt, IsSelectAt, as_statement}
+use Rattle.query_reader.specs.Select.{words_before}
+use Rattle.query_reader.specs.work.Select.{AreGrouped, AreSelect, IsBoundAs, begins_select}
 use Rattle.query_reader.proofs.GrammarLemmas.{forms-apart}
 use Rattle.query_reader.proofs.PlaceLemmas.{statement-select}
 use Rattle.sql_query.specs.Queries.{Query}
@@ -23,7 +25,7 @@ use Rattle.sql_query.specs.Grouped.{GroupedQuery}
 use Rattle.group_reader.specs.declared.selected.Selected.{Selected}
 use Rattle.group_reader.specs.declared.selected.Selected.TheVariants.{Plain, Grouped}
 use Rattle.group_reader.specs.Binding.{BoundGroups, grouped_with}
-use Rattle.group_reader.specs.Selected.{IsAnyGrammatical, IsGroupedAs, IsGroupedAt, IsGroupedOf, IsPlainOf, IsReadGrouped, IsReadPlain}
+use Rattle.group_reader.specs.work.Selected.{IsAnyGrammatical, IsGroupedAs, IsGroupedAt, IsGroupedOf, IsPlainOf, IsReadGrouped, IsReadPlain}
 use Rattle.group_reader.proofs.AddLemmas.{conveys-refused}
 use Rattle.query_reader.proofs.PlaceLemmas.{one-select as there-select}
 

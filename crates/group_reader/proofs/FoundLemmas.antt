@@ -13,8 +13,8 @@ use Rattle.query_reader.proofs.ConjunctLemmas.{kept-by}
 use Rattle.group_reader.specs.declared.parts.Part.{Part}
 use Rattle.group_reader.specs.declared.written.Sorting.{Sorting}
 use Rattle.group_reader.specs.Binding.{is_grouped, none_of, ungrouped_items, ungrouped_part}
-use Rattle.group_reader.specs.Meaning.{first_of, last_word}
-use Rattle.group_reader.specs.Seen.{with_found}
+use Rattle.group_reader.specs.work.Meaning.{first_of, last_word}
+use Rattle.group_reader.specs.work.Seen.{with_found}
 
 by-found : (o : Option ColRef) (old rest : List ColRef) → with_found old o ++ rest ≡ old ++ cons_option o rest
 by-found None old rest = refl

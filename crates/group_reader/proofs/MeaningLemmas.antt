@@ -18,9 +18,10 @@ use Rattle.sql_query.specs.declared.grouped.Item.{Item}
 use Rattle.query_reader.specs.Order.{order_item, order_items}
 use Rattle.group_reader.specs.declared.parts.Part.{Part}
 use Rattle.group_reader.specs.declared.written.Column.{Column}
-use Rattle.group_reader.specs.Binding.{BoundLists, all_grouped, group_columns, grouper, item_parts, grouping_columns, known_call, list_parts, lists_bound, order_words, over_column, over_rows, shown_columns, word_of_ordering}
-use Rattle.group_reader.specs.Meaning.{column_by, column_meant, keys_said, known, last_word, list_said, listed_said, lists_said, part_alone, sorting_said, then_parts}
-use Rattle.group_reader.specs.Written.{column_written, columns_written, listed_of, sorting_of, sorts_written}
+use Rattle.group_reader.specs.Binding.{BoundLists, all_grouped, group_columns, item_parts, grouping_columns, known_call, list_parts, lists_bound, order_words, over_column, over_rows, shown_columns, word_of_ordering}
+use Rattle.group_reader.specs.work.Binding.{grouper}
+use Rattle.group_reader.specs.work.Meaning.{column_by, column_meant, keys_said, known, last_word, list_said, listed_said, lists_said, part_alone, sorting_said, then_parts}
+use Rattle.group_reader.specs.work.Written.{column_written, columns_written, listed_of, sorting_of, sorts_written}
 
 -- a column that is meant is visible
 column-by-seen : (scope : Scope) (q : Option Spelled) (n : Spelled) (x : ColRef) → column_by scope q n ≡ Ok x → Contains (columns_in_scope scope) x

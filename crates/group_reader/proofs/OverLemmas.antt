@@ -26,16 +26,17 @@ use Rattle.sql_grammar.specs.declared.class.Symbol.TheVariants.{Close, Comma, Do
 use Rattle.sql_grammar.specs.declared.class.Word.TheVariants.{From}
 use Rattle.sql_grammar.specs.Words.{words_of_argument, words_of_col, words_of_ending, words_of_group, words_of_group_by, words_of_group_columns, words_of_grouped, words_of_grouped_item, words_of_grouped_items, words_of_groups, words_of_order, words_of_output, words_of_outputs, words_of_where}
 use Rattle.expr_reader.specs.Lists.{further_parts}
-use Rattle.expr_reader.specs.Reading.{BeginsNot, free_name}
+use Rattle.expr_reader.specs.work.Reading.{BeginsNot, free_name}
 use Rattle.expr_reader.proofs.Named.{AreNamed, named-from}
 use Rattle.expr_reader.specs.Conditions.{next}
 use Rattle.expr_reader.proofs.StepLemmas.{step, stop}
 use Rattle.sql_query.specs.Grouped.{GroupedQuery}
 use Rattle.sql_query.specs.declared.grouped.Item.{Item}
 use Rattle.query_reader.specs.Binding.{conjuncts_written, limited, past_limit}
-use Rattle.query_reader.specs.Ends.{ends_from, ends_order, ends_where, ends_window}
+use Rattle.query_reader.specs.work.Ends.{ends_from, ends_order, ends_where, ends_window}
 use Rattle.query_reader.specs.From.{Joined, nothing_joined, with_groups}
-use Rattle.query_reader.specs.Scope.{Sight, scope_of, visible_in}
+use Rattle.query_reader.specs.Scope.{scope_of}
+use Rattle.query_reader.specs.work.Scope.{Sight, visible_in}
 use Rattle.query_reader.proofs.AliasLemmas.{HasNames, all-named}
 use Rattle.query_reader.proofs.JoinLemmas.{behind-from}
 use Rattle.query_reader.proofs.ReadingLemmas.{ends-order, ends-where}
@@ -43,13 +44,14 @@ use Rattle.group_reader.specs.declared.group.Ready.{Ready}
 use Rattle.group_reader.specs.declared.written.Column.{Column}
 use Rattle.group_reader.specs.declared.written.Listed.{Listed}
 use Rattle.group_reader.specs.declared.written.Sorting.{Sorting}
-use Rattle.group_reader.specs.Binding.{BoundGroups, BoundLists, Grouper, shown, bound_groups, grouped_with, grouper, groups_over, item_in, lists_bound, named_in_lists}
-use Rattle.group_reader.specs.Ends.{ends_columns}
-use Rattle.group_reader.specs.Meaning.{lists_said}
-use Rattle.group_reader.specs.Reads.{begins_distinct, begins_items, behind_distinct}
-use Rattle.group_reader.specs.Seen.{IsReady, grouped_of}
-use Rattle.group_reader.specs.Selected.{IsGroupedAs}
-use Rattle.group_reader.specs.Written.{column_written, columns_written, listed_of, sorts_written}
+use Rattle.group_reader.specs.Binding.{BoundGroups, BoundLists, Grouper, shown, bound_groups, grouped_with, groups_over, item_in, lists_bound, named_in_lists}
+use Rattle.group_reader.specs.work.Binding.{grouper}
+use Rattle.group_reader.specs.work.Ends.{ends_columns}
+use Rattle.group_reader.specs.work.Meaning.{lists_said}
+use Rattle.group_reader.specs.work.Reads.{begins_distinct, begins_items, behind_distinct}
+use Rattle.group_reader.specs.work.Seen.{IsReady, grouped_of}
+use Rattle.group_reader.specs.work.Selected.{IsGroupedAs}
+use Rattle.group_reader.specs.work.Written.{column_written, columns_written, listed_of, sorts_written}
 use Rattle.group_reader.proofs.AddLemmas.{conveys-memory, conveys-stopped}
 use Rattle.group_reader.proofs.MeaningLemmas.{lists-same}
 

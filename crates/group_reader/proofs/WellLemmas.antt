@@ -27,7 +27,7 @@ use Rattle.eq_classes.proofs.EqualLemmas.{column_is}
 use Rattle.eq_classes.proofs.HoldLemmas.{in_map, map_in}
 use Rattle.eq_classes.proofs.ListLemmas.{IsIn, all_at, all_from, any_at, contains_from_in, filter_map_in, in_filter_map, in_left, in_parts, in_right}
 use Rattle.eq_classes.proofs.WrittenLemmas.{in_typed}
-use Rattle.path_cost.specs.Columns.{IsOver, is_column_in}
+use Rattle.path_cost.specs.work.Columns.{IsOver, is_column_in}
 use Rattle.sql_lex.specs.declared.tokens.Token.{Token}
 use Rattle.expr_reader.specs.declared.cursor.Spelled.{Spelled}
 use Rattle.expr_reader.specs.Lists.{before_all, bound_each}
@@ -43,8 +43,8 @@ use Rattle.group_query.specs.Grouping.{IsItemOf, IsWellGrouped, directed_item, g
 use Rattle.group_query.specs.Shapes.{calls_of, place_in, place_or}
 use Rattle.query_reader.specs.declared.written.Item.TheVariants.{Bare, Qualified}
 use Rattle.query_reader.specs.Binding.{alone, item_columns, past_limit, then_columns}
-use Rattle.query_reader.specs.Conveys.{Conveys}
-use Rattle.query_reader.specs.From.{AreRelations}
+use Rattle.query_reader.specs.work.Conveys.{Conveys}
+use Rattle.query_reader.specs.work.From.{AreRelations}
 use Rattle.query_reader.specs.Named.{columns_in_all}
 use Rattle.query_reader.specs.Scope.{scope_of}
 use Rattle.query_reader.proofs.BoundLemmas.{shown-columns}
@@ -56,8 +56,8 @@ use Rattle.group_reader.specs.declared.written.Listed.{Listed}
 use Rattle.group_reader.specs.declared.written.Listed.TheVariants.{Columns, OverRows, OverColumn}
 use Rattle.group_reader.specs.declared.written.Sorting.{Sorting}
 use Rattle.group_reader.specs.Binding.{BoundLists, base_with, column_by_call, column_of_part, grouped_with, is_bool, is_grouped, item_in, none_of, over_column, over_rows, shown_columns, ungrouped_items, ungrouped_part}
-use Rattle.group_reader.specs.Meaning.{column_by, column_call, column_meant, keys_said, known, last_word, list_said, listed_said, lists_said, part_alone, shown_at, sorting_said, then_parts}
-use Rattle.group_reader.specs.Selected.{IsGroupedByItself}
+use Rattle.group_reader.specs.work.Meaning.{column_by, column_call, column_meant, keys_said, known, last_word, list_said, listed_said, lists_said, part_alone, shown_at, sorting_said, then_parts}
+use Rattle.group_reader.specs.work.Selected.{IsGroupedByItself}
 use Rattle.group_reader.proofs.AddLemmas.{was-conveyed}
 use Rattle.group_reader.proofs.ClassLemmas.{group-directed}
 use Rattle.group_query.proofs.ItemLemmas.{directed-column}

@@ -6,17 +6,18 @@ use Rattle.sql_grammar.specs.Syntax.{Key, Mark, Col, bare, qualified, Output, ev
 use Rattle.sql_grammar.specs.Words.{words_of_argument, words_of_col, words_of_group_by, words_of_order, words_of_grouped_item, words_of_grouped_items, words_of_group_columns, words_of_output}
 use Rattle.sql_grammar.specs.declared.class.Word.TheVariants.{From, Group as GroupKey, Order}
 use Rattle.sql_grammar.specs.declared.class.Symbol.TheVariants.{Close, Comma, Dot, Open, Star}
-use Rattle.sql_grammar.specs.Unique.{ends_operand}
+use Rattle.sql_grammar.specs.work.Unique.{ends_operand}
 use Rattle.expr_reader.specs.Lists.{further_parts}
-use Rattle.expr_reader.specs.Reading.{BeginsName, BeginsNot, spelled}
+use Rattle.expr_reader.specs.Reading.{spelled}
+use Rattle.expr_reader.specs.work.Reading.{BeginsName, BeginsNot}
 use Rattle.expr_reader.specs.declared.cursor.Spelled.{Spelled}
 use Rattle.query_reader.specs.declared.written.Item.TheVariants.{Bare, Every, EveryOf, Qualified}
-use Rattle.query_reader.specs.Ends.{ends_item, ends_order}
+use Rattle.query_reader.specs.work.Ends.{ends_item, ends_order}
 use Rattle.group_reader.specs.declared.written.Column.{Column}
 use Rattle.group_reader.specs.declared.written.Listed.{Listed}
 use Rattle.group_reader.specs.declared.written.Listed.TheVariants.{Columns}
-use Rattle.group_reader.specs.Ends.{ends_columns, ends_listed}
-use Rattle.group_reader.specs.Written.{column_written, columns_listed, columns_written, listed_of, sorts_written}
+use Rattle.group_reader.specs.work.Ends.{ends_columns, ends_listed}
+use Rattle.group_reader.specs.work.Written.{column_written, columns_listed, columns_written, listed_of, sorts_written}
 
 -- a name, and no `.` after it
 pub bare-column : (c : Col) (rest old mid new : List Terminal) (s : Spelled) → BeginsName s old mid → new ≡ mid → BeginsNot (t_mark Dot) mid → old ≡ words_of_col c ++ rest →

@@ -107,11 +107,6 @@ pub data Grouper : Type 0 where
   columns_of : GroupBy → Grouper
   shown : Grouper
 
--- what a SELECT is grouped by, with DISTINCT before its list or not, where this GROUP BY is written
-abbrev pub grouper : Bool → GroupBy → Grouper
-grouper true b = shown
-grouper false b = columns_of b
-
 -- the columns that a SELECT is grouped by, where its list is bound to these parts
 abbrev pub grouping_columns : Scope → Grouper → List Part → Result (List ColRef) Fault
 grouping_columns scope (columns_of b) ps = group_columns scope b
@@ -154,10 +149,6 @@ pub record BoundLists : Type 0 where
   pub parts : List Part
   pub order : List OrderItem
   pub keys : List ColRef
-
--- the words of the errors of bound lists where they are not grouped, those of ORDER BY beside their last words
-abbrev pub ungrouped_words : BoundLists → List Token → List Token
-ungrouped_words l words = filter_map (ungrouped_part l.keys) l.parts ++ ungrouped_items l.keys l.order words
 
 -- the list that is shown, then ORDER BY, then GROUP BY, then what is not grouped
 abbrev pub lists_bound : Scope → (ColRef → SqlType) → List GroupedItem → Grouper → OrderBy → Result BoundLists Fault

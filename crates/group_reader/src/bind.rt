@@ -2,11 +2,11 @@
 
 ghost use Rattle.std.specs.Prelude.{◌≡◌, Ok, map};
 ghost use Rattle.expr_reader.specs.Lists.{bound_each};
-ghost use Rattle.query_reader.specs.Conveys.{Conveys};
-ghost use Rattle.query_reader.specs.Scope.{visible_in, types_in};
-ghost use Rattle.group_reader.specs.Adds.{AddsParts};
+ghost use Rattle.query_reader.specs.work.Conveys.{Conveys};
+ghost use Rattle.query_reader.specs.work.Scope.{visible_in, types_in};
+ghost use Rattle.group_reader.specs.work.Adds.{AddsParts};
 ghost use Rattle.group_reader.specs.Binding.{is_bool as is_truth, over_column as over_one, over_rows as over_all};
-ghost use Rattle.group_reader.specs.Meaning.{column_call, column_meant, columns_said, known as known_call, list_said, listed_said, shown_at, sorting_column as sorted_by, sorting_said};
+ghost use Rattle.group_reader.specs.work.Meaning.{column_call, column_meant, columns_said, known as known_call, list_said, listed_said, shown_at, sorting_column as sorted_by, sorting_said};
 
 use crate::parts::Part;
 use crate::written::{Column, Listed, Sorting};

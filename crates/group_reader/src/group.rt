@@ -1,19 +1,19 @@
 //! A SELECT that groups: its words read, and its names bound.
 
 ghost use Rattle.std.specs.Prelude.{◌≡◌, ◌<◌, ◌≤◌, ◌^◌, ℕ, All, IfOk, drop, length, map};
-ghost use Rattle.pg_expr.specs.View.{cond};
-ghost use Rattle.path_cost.specs.Columns.{IsOver};
+ghost use Rattle.pg_expr.specs.work.View.{cond};
+ghost use Rattle.path_cost.specs.work.Columns.{IsOver};
 ghost use Rattle.sql_lex.specs.Words.{AreWords};
 ghost use Rattle.sql_grammar.specs.Faults.{terminals};
 ghost use Rattle.sql_grammar.specs.Syntax.{GroupedSelect};
 ghost use Rattle.expr_reader.specs.Conditions.{next};
 ghost use Rattle.query_reader.specs.Binding.{limited, past_limit};
-ghost use Rattle.query_reader.specs.Conveys.{Conveys};
-ghost use Rattle.query_reader.specs.From.{AreRelations, HaveNames};
-ghost use Rattle.group_reader.specs.Seen.{IsReady, grouped_of, words_said};
-ghost use Rattle.group_reader.specs.Selected.{IsGroupedAt, IsGroupedByItself, BindsGrouped, BindsGroupsOver, BindsGroups};
-ghost use Rattle.group_reader.specs.Written.{columns_written, sorts_written};
-ghost use Rattle.group_reader.specs.Reads.{begins_distinct, begins_items, behind_distinct, StandsGrouping, IfGrouping, StandsGroupedAfterFrom, StandsGroupedFrom};
+ghost use Rattle.query_reader.specs.work.Conveys.{Conveys};
+ghost use Rattle.query_reader.specs.work.From.{AreRelations, HaveNames};
+ghost use Rattle.group_reader.specs.work.Seen.{IsReady, grouped_of, words_said};
+ghost use Rattle.group_reader.specs.work.Selected.{IsGroupedAt, IsGroupedByItself, BindsGrouped, BindsGroupsOver, BindsGroups};
+ghost use Rattle.group_reader.specs.work.Written.{columns_written, sorts_written};
+ghost use Rattle.group_reader.specs.work.Reads.{begins_distinct, begins_items, behind_distinct, StandsGrouping, IfGrouping, StandsGroupedAfterFrom, StandsGroupedFrom};
 
 use crate::lists::{Lists, bound_lists, class_items, items, used};
 use crate::read::{group_columns, list, sorts};

@@ -2,14 +2,15 @@
 
 ghost use Rattle.std.specs.Prelude.{◌≡◌, ◌<◌, ◌≤◌, ◌^◌, ◌++◌, IfOk, length, map, filter_map};
 ghost use Rattle.eq_classes.specs.declared.order.OrderItem.{OrderItem};
-ghost use Rattle.pg_expr.specs.View.{cond};
+ghost use Rattle.pg_expr.specs.work.View.{cond};
 ghost use Rattle.group_query.specs.Grouping.{plain_item};
 ghost use Rattle.group_query.specs.Shapes.{place_in};
-ghost use Rattle.query_reader.specs.Conveys.{Conveys};
-ghost use Rattle.query_reader.specs.Scope.{visible_in};
-ghost use Rattle.group_reader.specs.Binding.{column_by_call, column_of_part, item_in, named_in_lists, shown_column, shown_columns, ungrouped_items, ungrouped_part, ungrouped_words};
-ghost use Rattle.group_reader.specs.Meaning.{first_of, keys_said, last_word};
-ghost use Rattle.group_reader.specs.Seen.{lists_of, with_found, words_said};
+ghost use Rattle.query_reader.specs.work.Conveys.{Conveys};
+ghost use Rattle.query_reader.specs.work.Scope.{visible_in};
+ghost use Rattle.group_reader.specs.Binding.{column_by_call, column_of_part, item_in, named_in_lists, shown_column, shown_columns, ungrouped_items, ungrouped_part};
+ghost use Rattle.group_reader.specs.work.Binding.{ungrouped_words};
+ghost use Rattle.group_reader.specs.work.Meaning.{first_of, keys_said, last_word};
+ghost use Rattle.group_reader.specs.work.Seen.{lists_of, with_found, words_said};
 
 use crate::bind::{add_list, columns, sort_items};
 use crate::parts::Part;

@@ -3,16 +3,16 @@
 
 ghost use Rattle.std.specs.Prelude.{◌≡◌, ◌∷◌, ◌≤◌, length, IfOk};
 ghost use Rattle.sql_grammar.specs.Terminals.{t_key};
-ghost use Rattle.sql_grammar.specs.Unique.{ends_operand};
+ghost use Rattle.sql_grammar.specs.work.Unique.{ends_operand};
 ghost use Rattle.sql_grammar.specs.Words.{words_of_col, words_of_group_by, words_of_group_columns, words_of_grouped_item, words_of_order, words_of_ordering, words_of_orderings};
 ghost use Rattle.sql_grammar.specs.declared.class.Word.TheVariants.{From};
 ghost use Rattle.expr_reader.specs.Lists.{further_parts};
-ghost use Rattle.query_reader.specs.Ends.{ends_order, ends_ordering};
-ghost use Rattle.group_reader.specs.Ends.{ends_columns, ends_listed};
-ghost use Rattle.group_reader.specs.Written.{called_over, column_written, columns_listed, columns_written, listed_of, sorting_of, sorts_written};
-ghost use Rattle.expr_reader.specs.Reading.{StandsFirst, Yields, StandsList, IfList, StandsListed, IfListed};
-ghost use Rattle.query_reader.specs.Reads.{StandsAfterName, YieldsAfterName};
-ghost use Rattle.group_reader.specs.Reads.{StandsArgument, YieldsArgument, words_of_grouped_list};
+ghost use Rattle.query_reader.specs.work.Ends.{ends_order, ends_ordering};
+ghost use Rattle.group_reader.specs.work.Ends.{ends_columns, ends_listed};
+ghost use Rattle.group_reader.specs.work.Written.{called_over, column_written, columns_listed, columns_written, listed_of, sorting_of, sorts_written};
+ghost use Rattle.expr_reader.specs.work.Reading.{StandsFirst, Yields, StandsList, IfList, StandsListed, IfListed};
+ghost use Rattle.query_reader.specs.work.Reads.{StandsAfterName, YieldsAfterName};
+ghost use Rattle.group_reader.specs.work.Reads.{StandsArgument, YieldsArgument, words_of_grouped_list};
 
 use crate::written::{Column, Listed, Sorting};
 use expr_reader::{Cursor, Spelled, descending, nulls_first};

@@ -2,9 +2,11 @@
 
 ghost use Rattle.std.specs.Prelude.{◌≡◌, ◌⊎◌, ◌<◌, ◌≤◌, ◌^◌, ℕ, IfOk, length};
 ghost use Rattle.sql_lex.specs.Words.{AreWords};
-ghost use Rattle.sql_grammar.specs.Faults.{IsWhole, terminals};
-ghost use Rattle.query_reader.specs.Select.{AreGrouped, AreNoOther, AreSelect, words_before};
-ghost use Rattle.group_reader.specs.Selected.{IsAnyGrammatical, IsWellSelected, ReadsPlainSelect, ReadsGroupedSelect};
+ghost use Rattle.sql_grammar.specs.Faults.{terminals};
+ghost use Rattle.sql_grammar.specs.work.Faults.{IsWhole};
+ghost use Rattle.query_reader.specs.Select.{words_before};
+ghost use Rattle.query_reader.specs.work.Select.{AreGrouped, AreNoOther, AreSelect};
+ghost use Rattle.group_reader.specs.work.Selected.{IsAnyGrammatical, IsWellSelected, ReadsPlainSelect, ReadsGroupedSelect};
 
 use crate::group::read_grouped;
 use catalog::Catalog;

@@ -14,12 +14,12 @@ use Rattle.sql_query.specs.Worlds.{World, IsWorld}
 use Rattle.plan_tree.specs.Plans.{Plan}
 use Rattle.plan_tree.specs.Run.{run}
 use Rattle.plan_tree.specs.Space.{IsFinished}
-use Rattle.plan_tree.specs.Views.{path}
+use Rattle.plan_tree.specs.work.Views.{path}
 use Rattle.group_values.specs.Groups.{Seen, lines, sorted, summaries}
 use Rattle.group_values.specs.declared.form.Form.{Form}
 use Rattle.group_values.specs.declared.form.Form.TheVariants.{Sorted, Hashed}
-use Rattle.group_values.specs.Grouping.{final_shape}
-use Rattle.group_values.specs.Neighbours.{AreTogether}
+use Rattle.group_values.specs.work.Grouping.{final_shape}
+use Rattle.group_values.specs.work.Neighbours.{AreTogether}
 use Rattle.group_values.specs.declared.task.GroupTask.{GroupTask}
 use Rattle.group_explain.specs.GroupPlans.{IsLeastOf, IsTaskOf}
 use Rattle.group_runs.proofs.BagLemmas.{groups-in-order}
@@ -29,7 +29,8 @@ use Rattle.group_runs.proofs.RunLemmas.{plan-lines, plan-neighbours}
 use Rattle.group_query.specs.Grouping.{IsWellGrouped, group_items}
 use Rattle.group_query.specs.Shapes.{args_of, shape_of}
 use Rattle.group_explain.specs.declared.chosen.Chosen.{Chosen}
-use Rattle.group_explain.specs.Plans.{IsChosen, IsGroupedExplanationOf, input_base, over_base}
+use Rattle.group_explain.specs.Plans.{IsGroupedExplanationOf}
+use Rattle.group_explain.specs.work.Plans.{IsChosen, input_base, over_base}
 use Rattle.group_explain.specs.Texts.{group_plan_text, group_query}
 use Rattle.group_explain.specs.reply_Effort.{exactly}
 use Rattle.group_explain.specs.reply_Putting.{HasWriteCause}
@@ -39,7 +40,7 @@ use Rattle.group_explain.specs.reply_stop_Broken.{Broken}
 use Rattle.group_explain.specs.reply_stop_Broken_TheVariants.{Write, Memory}
 use Rattle.group_explain.specs.reply_stop_Stop.{Stop}
 use Rattle.group_explain.specs.reply_stop_Stop_TheVariants as stops
-use Rattle.group_reply.specs.Drawing.{IsInputFor, drawn_reply}
+use Rattle.group_reply.specs.work.Drawing.{IsInputFor, drawn_reply}
 use Rattle.group_reply.specs.Replies.{AreOrderedLines, IsGroupedAnswerTo, meant_lines, seen_at}
 use Rattle.group_reply.proofs.ColumnLemmas.{args-there, columns-are, sorters-are}
 

@@ -20,10 +20,10 @@ use Rattle.sql_query.specs.Grouped.{GroupedQuery}
 use Rattle.sql_query.specs.WellBound.{ordered_columns}
 use Rattle.sql_query.specs.declared.grouped.Item.{Item}
 use Rattle.sql_query.specs.declared.grouped.Item.TheVariants.{Key, CountAll, Count, Min, Max}
-use Rattle.group_runs.specs.Sorters.{AreSortersOf}
+use Rattle.group_runs.specs.work.Sorters.{AreSortersOf}
 use Rattle.group_query.specs.Grouping.{IsItemOf, directed_item, group_items}
 use Rattle.group_query.specs.Shapes.{args_of, place_in, place_or, sorter_in}
-use Rattle.group_reply.specs.Columns.{IsArgOf}
+use Rattle.group_reply.specs.work.Columns.{IsArgOf}
 use Rattle.group_query.proofs.ItemLemmas.{directed-column}
 
 -- a column stands where it is looked for among some of which it is one

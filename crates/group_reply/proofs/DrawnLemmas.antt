@@ -9,14 +9,14 @@ use Rattle.sql_query.specs.Tuples.{Tuple, no_rows}
 use Rattle.sql_query.specs.Worlds.{World}
 use Rattle.plan_tree.specs.Counts.{MOST_READS, fetches, looks}
 use Rattle.plan_tree.specs.Plans.{Plan}
-use Rattle.executor.specs.Reading.{Reading}
+use Rattle.executor.specs.work.Reading.{Reading}
 use Rattle.group_values.specs.declared.task.GroupPlan.{GroupPlan}
 use Rattle.group_values.specs.declared.task.GroupTask.{GroupTask}
-use Rattle.group_explain.specs.Plans.{over_base}
+use Rattle.group_explain.specs.work.Plans.{over_base}
 use Rattle.group_explain.specs.Texts.{group_plan_text}
 use Rattle.group_explain.specs.reply_Replies.{HasBegun, HasReplied, Reply, traces}
 use Rattle.group_explain.specs.reply_PuttingLemmas.{prefix-none}
-use Rattle.group_reply.specs.Drawing.{drawn, drawn_reply, final_lines, seen_all}
+use Rattle.group_reply.specs.work.Drawing.{drawn, drawn_reply, final_lines, seen_all}
 use Rattle.group_reply.specs.Replies.{lines_text}
 
 -- nothing done yet

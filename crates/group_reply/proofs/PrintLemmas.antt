@@ -6,7 +6,7 @@ use Rattle.std.proofs.lemmas.List.Concat.{flat_map-append}
 use Rattle.pg_base.specs.Writing.{AppendsPrefix}
 use Rattle.pg_value.specs.declared.value.Value.{Value}
 use Rattle.reply_text.specs.Texts.{row_line}
-use Rattle.group_explain.specs.reply_Putting.{HasPut}
+use Rattle.group_explain.specs.reply_work_Putting.{HasPut}
 use Rattle.group_explain.specs.reply_PuttingLemmas.{line_cut, line_put}
 use Rattle.pg_base.proofs.OptionLemmas.{appends-none}
 use Rattle.reply_text.proofs.PieceLaws.{prefix-longer as prefix-of}

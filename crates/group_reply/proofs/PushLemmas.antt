@@ -3,11 +3,11 @@ use Rattle.std.proofs.Common.{◌≡◌, ℕ, ◌+◌, ◌*◌, ◌≤◌, List,
 use Rattle.std.proofs.lemmas.List.{map-append}
 use Rattle.sql_query.specs.Tuples.{Tuple}
 use Rattle.plan_tree.specs.Counts.{MOST_READS}
-use Rattle.executor.specs.Reading.{Reading}
+use Rattle.executor.specs.work.Reading.{Reading}
 use Rattle.group_values.specs.Groups.{Seen}
-use Rattle.group_values.specs.Steps.{IsLastAlone}
-use Rattle.group_values.specs.Grouping.{AreOf, Grouping, with_groups}
-use Rattle.group_values.specs.Neighbours.{AreTogether}
+use Rattle.group_values.specs.work.Steps.{IsLastAlone}
+use Rattle.group_values.specs.work.Grouping.{AreOf, Grouping, with_groups}
+use Rattle.group_values.specs.work.Neighbours.{AreTogether}
 use Rattle.group_values.specs.declared.form.Form.TheVariants.{Sorted}
 use Rattle.group_values.proofs.NeighbourLemmas.{last-alone}
 

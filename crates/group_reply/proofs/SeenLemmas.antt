@@ -10,19 +10,19 @@ use Rattle.pg_expr.specs.declared.operand.ColRef.{ColRef}
 use Rattle.heap.specs.Stored.{IsRowOf, IsColumnValue, Values}
 use Rattle.catalog.specs.Contents.{Contents, IsTable, no_table, table_at}
 use Rattle.catalog.specs.Range.{relation_at}
-use Rattle.sort_rows.specs.Rows.{relation}
+use Rattle.sort_rows.specs.work.Rows.{relation}
 use Rattle.sql_query.specs.Queries.{Query, width}
 use Rattle.sql_query.specs.Tuples.{Tuple, row_at, row_of, value_at}
 use Rattle.sql_query.specs.WellBound.{IsColumnOf, IsWellBound}
 use Rattle.sql_query.specs.Worlds.{Holds, nothing_stored, stored_at, world}
-use Rattle.store.specs.Kept.{IsStoreOf, Kept}
+use Rattle.store.specs.work.Kept.{IsStoreOf, Kept}
 use Rattle.pg_base.proofs.ListLemmas.{zip-long as zip_long}
 use Rattle.pg_base.proofs.ListLemmas.{zip-at as zip_at}
-use Rattle.executor.specs.Numbers.{IsTupleOf}
+use Rattle.executor.specs.work.Numbers.{IsTupleOf}
 use Rattle.group_explain.specs.reply_Showing.{HasColumn, cell_of, rows_at}
 use Rattle.group_values.specs.Groups.{Seen}
 use Rattle.group_runs.specs.Seen.{arg_at, seen_of}
-use Rattle.group_reply.specs.Columns.{AreSeenOf, HasArg, IsArgOf, arg_in}
+use Rattle.group_reply.specs.work.Columns.{AreSeenOf, HasArg, IsArgOf, arg_in}
 
 module _ (c : Contents) (k : Kept) (q : Query) (t : Tuple) (bound : IsWellBound c q) (store : IsStoreOf c k) (is : IsTupleOf (world c k.stored) q t) where
   row-is : (r : ℕ) → r < width q → slice_index_or (rows_at (world c k.stored) q t) r [] ≡ row_at (world c k.stored) q t (relation r)

@@ -9,12 +9,12 @@ use Rattle.sql_query.specs.declared.grouped.Item.{Item}
 use Rattle.sql_query.specs.declared.grouped.Item.TheVariants.{Key, CountAll, Count, Min, Max}
 use Rattle.group_values.specs.Groups.{Seen}
 use Rattle.group_values.specs.declared.shape.Call.{Call}
-use Rattle.group_values.specs.Neighbours.{AreTogether}
+use Rattle.group_values.specs.work.Neighbours.{AreTogether}
 use Rattle.group_values.specs.declared.form.Form.{Form}
 use Rattle.group_values.specs.declared.form.Form.TheVariants.{Sorted}
 use Rattle.group_runs.specs.Seen.{seen_of}
 use Rattle.group_query.specs.Shapes.{args_of, calls_of}
-use Rattle.group_reply.specs.Drawing.{seen_all}
+use Rattle.group_reply.specs.work.Drawing.{seen_all}
 
 -- each call has one column, or none
 as-many : (is : List Item) → length (args_of is) ≡ length (calls_of is)

@@ -3,14 +3,16 @@
 ghost use Rattle.std.specs.Prelude.{◌≡◌, ◌≢◌, IfErr, OnErr, OnOk};
 ghost use Rattle.sql_query.specs.Grouped.{GroupedQuery};
 ghost use Rattle.sql_query.specs.Worlds.{world};
-ghost use Rattle.plan_tree.specs.Views.{path};
-ghost use Rattle.store.specs.Kept.{IsStoreOf};
+ghost use Rattle.plan_tree.specs.work.Views.{path};
+ghost use Rattle.store.specs.work.Kept.{IsStoreOf};
 ghost use Rattle.group_explain.specs.reply_Putting.{HasWriteCause};
-ghost use Rattle.group_explain.specs.reply_Replies.{HasBegun, HasReplied, Leaves, Reply, traces};
+ghost use Rattle.group_explain.specs.reply_Replies.{HasBegun, HasReplied, Reply, traces};
+ghost use Rattle.group_explain.specs.reply_work_Replies.{Leaves};
 ghost use Rattle.group_explain.specs.reply_Settings.{IsSetting, world_of};
 ghost use Rattle.group_query.specs.Grouping.{IsWellGrouped};
-ghost use Rattle.group_explain.specs.Plans.{HasNoGroupPlan, IsGroupedExplanationOf, IsOverInput, IsReady};
-ghost use Rattle.group_reply.specs.Drawing.{IsInputFor, chosen_reply};
+ghost use Rattle.group_explain.specs.Plans.{HasNoGroupPlan, IsGroupedExplanationOf};
+ghost use Rattle.group_explain.specs.work.Plans.{IsOverInput, IsReady};
+ghost use Rattle.group_reply.specs.work.Drawing.{IsInputFor, chosen_reply};
 ghost use Rattle.group_reply.specs.Replies.{IsGroupedAnswerTo};
 
 use crate::drawing::draw_lines;

@@ -2,7 +2,7 @@
 
 ghost use Rattle.std.specs.Prelude.{◌≡◌, All, IfOk, map};
 ghost use Rattle.group_explain.specs.reply_Showing.{HasColumn, cell_of};
-ghost use Rattle.group_reply.specs.Columns.{HasArg, arg_in};
+ghost use Rattle.group_reply.specs.work.Columns.{HasArg, arg_in};
 
 use group_values::Values;
 use heap::{Row, value_in};

@@ -2,16 +2,16 @@
 
 ghost use Rattle.std.specs.Prelude.{◌≡◌, ◌+◌, ◌*◌, ◌≤◌, ◌<◌, ◌^◌, ◌++◌, ◌∷◌, [], List, All, IfOk, OnOk, length};
 ghost use Rattle.plan_tree.specs.Counts.{MOST_READS};
-ghost use Rattle.executor.specs.Numbers.{IsTupleOf, numbers};
+ghost use Rattle.executor.specs.work.Numbers.{IsTupleOf, numbers};
 ghost use Rattle.group_explain.specs.reply_Settings.{IsSetting, world_of};
 ghost use Rattle.group_values.specs.Groups.{Seen, lines};
-ghost use Rattle.group_values.specs.Steps.{IsLastAlone};
-ghost use Rattle.group_values.specs.Grouping.{AreOf, final_shape, with_groups};
-ghost use Rattle.group_values.specs.Neighbours.{AreTogether};
+ghost use Rattle.group_values.specs.work.Steps.{IsLastAlone};
+ghost use Rattle.group_values.specs.work.Grouping.{AreOf, final_shape, with_groups};
+ghost use Rattle.group_values.specs.work.Neighbours.{AreTogether};
 ghost use Rattle.group_values.specs.declared.form.Form.TheVariants.{Sorted};
 ghost use Rattle.group_query.specs.Shapes.{args_of, calls_of};
-ghost use Rattle.group_reply.specs.Columns.{AreColumnsSeen, AreSeenOf, all_seen_by, seen_by};
-ghost use Rattle.group_reply.specs.Drawing.{final_lines, seen_all};
+ghost use Rattle.group_reply.specs.work.Columns.{AreColumnsSeen, AreSeenOf, all_seen_by, seen_by};
+ghost use Rattle.group_reply.specs.work.Drawing.{final_lines, seen_all};
 
 use crate::columns::{Columns, args_in, keys_in};
 use executor::Rows;

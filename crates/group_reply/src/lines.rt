@@ -5,7 +5,8 @@ ghost use Rattle.std.specs.Io.KnownBytes.{Appends};
 ghost use Rattle.std.specs.List.{flat_map};
 ghost use Rattle.pg_base.specs.Writing.{AppendsPrefix};
 ghost use Rattle.reply_text.specs.Texts.{row_line};
-ghost use Rattle.group_explain.specs.reply_Putting.{HasWriteCause, Puts};
+ghost use Rattle.group_explain.specs.reply_Putting.{HasWriteCause};
+ghost use Rattle.group_explain.specs.reply_work_Putting.{Puts};
 ghost use Rattle.group_explain.specs.reply_stop_Broken_TheVariants.{Write};
 ghost use Rattle.group_reply.specs.Replies.{lines_text};
 

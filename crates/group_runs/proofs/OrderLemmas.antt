@@ -37,11 +37,11 @@ use Rattle.plan_laws.proofs.TotalLemmas.{IsUp}
 use Rattle.group_values.specs.declared.shape.Sorter.{Sorter}
 use Rattle.group_values.specs.Groups.{lines}
 use Rattle.group_values.specs.Shapes.{GroupShape}
-use Rattle.group_values.specs.Grouping.{final_shape}
-use Rattle.group_values.specs.Neighbours.{tuple_order}
+use Rattle.group_values.specs.work.Grouping.{final_shape}
+use Rattle.group_values.specs.work.Neighbours.{tuple_order}
 use Rattle.group_values.proofs.OrderedLemmas.{no-sort}
 use Rattle.group_runs.specs.Seen.{seen_of}
-use Rattle.group_runs.specs.Sorters.{AreSortersOf, IsSorterOf}
+use Rattle.group_runs.specs.work.Sorters.{AreSortersOf, IsSorterOf}
 use Rattle.group_runs.proofs.TieLemmas.{default-is, family, not-by-magnitude, of-family}
 
 module _ (w : World) (q : Query) where

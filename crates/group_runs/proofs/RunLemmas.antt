@@ -18,7 +18,7 @@ use Rattle.plan_laws.proofs.FinishedLemmas.{finished_is_meaning}
 use Rattle.plan_laws.proofs.FinishedOrderLemmas.{finished_is_ordered}
 use Rattle.group_values.specs.Groups.{Seen, lines}
 use Rattle.group_values.specs.Shapes.{GroupShape}
-use Rattle.group_values.specs.Neighbours.{AreTogether}
+use Rattle.group_values.specs.work.Neighbours.{AreTogether}
 use Rattle.group_values.proofs.SortedLemmas.{sorted-together}
 use Rattle.group_runs.proofs.BagLemmas.{bag-of-lines}
 use Rattle.group_runs.specs.Seen.{seen_of}

@@ -13,7 +13,7 @@ use Rattle.pg_value.specs.declared.operators.Family.{Family}
 use Rattle.pg_value.specs.declared.operators.Family.TheVariants.{Integer, IntAbs, Text as TextOps, Bool as BoolOps}
 use Rattle.pg_value.specs.ColumnOrder.{column_order, directed}
 use Rattle.pg_value.specs.Kinds.{directed_order, kind_order}
-use Rattle.pg_value.specs.Order.{IsOfFamily}
+use Rattle.pg_value.specs.work.Order.{IsOfFamily}
 use Rattle.pg_value.specs.Sorting.{one_after_other}
 use Rattle.pg_value.specs.Types.{IsOfType}
 use Rattle.pg_value.proofs.ColumnOrderLemmas.{column_total}

@@ -14,10 +14,10 @@ ghost use Rattle.plan_tree.specs.Run.{run};
 ghost use Rattle.plan_tree.specs.Space.{IsFinished};
 ghost use Rattle.group_values.specs.Groups.{lines};
 ghost use Rattle.group_values.specs.Shapes.{GroupShape};
-ghost use Rattle.group_values.specs.Neighbours.{AreTogether};
-ghost use Rattle.group_values.specs.Grouping.{final_shape};
+ghost use Rattle.group_values.specs.work.Neighbours.{AreTogether};
+ghost use Rattle.group_values.specs.work.Grouping.{final_shape};
 ghost use Rattle.group_runs.specs.Seen.{seen_of};
-ghost use Rattle.group_runs.specs.Sorters.{AreSortersOf};
+ghost use Rattle.group_runs.specs.work.Sorters.{AreSortersOf};
 
 /// The lines of the groups of a finished plan's tuples are as a bag those of the tuples that the query means.
 pub fn plans_give_the_meant_lines()

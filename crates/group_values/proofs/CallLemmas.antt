@@ -12,7 +12,7 @@ use Rattle.pg_value.proofs.KindLemmas.{directed_total}
 use Rattle.group_values.specs.declared.shape.Call.{Call}
 use Rattle.group_values.specs.declared.shape.Call.TheVariants.{CountAll, Count, Min, Max}
 use Rattle.group_values.specs.Groups.{Seen, all_called, values_of_call, called, first_or_null, is_known, count_value}
-use Rattle.group_values.specs.Steps.{blank, can_rise, first_of, has_room, have_room, risen, with_args, with_one}
+use Rattle.group_values.specs.work.Steps.{blank, can_rise, first_of, has_room, have_room, risen, with_args, with_one}
 use Rattle.group_values.proofs.LeastLemmas.{first-more}
 use Rattle.group_values.proofs.OrderLemmas.{both-true}
 

@@ -6,16 +6,16 @@ use Rattle.std.proofs.lemmas.List.{get_or-map, get_or-set_other, length-map, len
 use Rattle.std.proofs.lemmas.List.Elements.{All-weaker}
 use Rattle.std.proofs.lemmas.Nat.{mod_below}
 use Rattle.pg_value.specs.declared.value.Value.{Value}
-use Rattle.linked.specs.Lists.{AreLists, has, list_of, first, next_in, behind, put_after, with_after}
+use Rattle.linked.specs.work.Lists.{AreLists, has, list_of, first, next_in, behind, put_after, with_after}
 use Rattle.linked.proofs.ListLemmas.{behind_in, next_behind, put_parts, step_on}
 use Rattle.linked.proofs.ChangeLemmas.{put_has_other, put-behind}
 use Rattle.group_values.specs.Groups.{same_keys}
 use Rattle.group_values.specs.Shapes.{Summary}
-use Rattle.group_values.specs.Steps.{group_at, none}
+use Rattle.group_values.specs.work.Steps.{group_at, none}
 use Rattle.group_values.proofs.OrderLemmas.{same-is}
-use Rattle.group_values.specs.Hash.{hash_of}
-use Rattle.group_values.specs.Places.{HasNoGroup, hashes_of}
-use Rattle.group_values.specs.Chains.{AreChained, chain_from, first_for}
+use Rattle.group_values.specs.work.Hash.{hash_of}
+use Rattle.group_values.specs.work.Places.{HasNoGroup, hashes_of}
+use Rattle.group_values.specs.work.Chains.{AreChained, chain_from, first_for}
 
 below-more : (o : Option ℕ) (n m : ℕ) → n ≤ m → IfSome o (λ s. s < n) → IfSome o (λ s. s < m)
 below-more None n m le h = tt

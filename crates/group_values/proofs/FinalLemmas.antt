@@ -6,7 +6,7 @@ use Rattle.pg_value.specs.declared.value.Value.{Value}
 use Rattle.group_values.specs.declared.shape.Shown.{Shown}
 use Rattle.group_values.specs.Groups.{line, lines_of_groups, sorted}
 use Rattle.group_values.specs.Shapes.{GroupShape, Summary}
-use Rattle.group_values.specs.Grouping.{final_shape}
+use Rattle.group_values.specs.work.Grouping.{final_shape}
 
 -- without items of ORDER BY all groups keep their places
 pub unsorted : (gs : List Summary) → sorted [] gs ≡ gs

@@ -4,13 +4,13 @@ use Rattle.std.proofs.lemmas.List.Elements.{All-push, All-set}
 use Rattle.pg_value.specs.declared.value.Value.{Value}
 use Rattle.group_values.specs.declared.shape.Call.{Call}
 use Rattle.group_values.specs.Shapes.{Summary}
-use Rattle.group_values.specs.Steps.{AreWhole, begun, blank, group_at, joined, none}
+use Rattle.group_values.specs.work.Steps.{AreWhole, begun, blank, group_at, joined, none}
 use Rattle.group_values.proofs.CallLemmas.{with-many}
 use Rattle.group_values.specs.declared.listing.Finder.{Finder}
 use Rattle.group_values.specs.declared.listing.Finder.TheVariants.{Last, ByHash}
-use Rattle.group_values.specs.Hash.{hash_of}
-use Rattle.group_values.specs.Listing.{HasNoted}
-use Rattle.group_values.specs.Places.{hashes_of}
+use Rattle.group_values.specs.work.Hash.{hash_of}
+use Rattle.group_values.specs.work.Listing.{HasNoted}
+use Rattle.group_values.specs.work.Places.{hashes_of}
 
 -- a group with one more tuple has the same keys
 hashes-joined : (calls : List Call) (args : List Value) (gs : List Summary) (n : ℕ) → n < length gs → hashes_of (set gs n (joined calls args (group_at gs n))) ≡ hashes_of gs

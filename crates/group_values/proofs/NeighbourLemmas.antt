@@ -5,11 +5,12 @@ use Rattle.std.specs.Prelude.{filter}
 use Rattle.std.proofs.lemmas.Bool.{true≢false}
 use Rattle.std.proofs.lemmas.List.{get_or-map, get_or_append_left, length-append, length-map}
 use Rattle.group_values.specs.Shapes.{GroupShape, Summary}
-use Rattle.group_values.specs.Groups.{IsSumOf, Seen, alike, firsts, groups, keys_of_group, same_keys, summary}
-use Rattle.group_values.specs.Steps.{IsLastAlone, group_at, none}
+use Rattle.group_values.specs.Groups.{Seen, alike, firsts, groups, keys_of_group, same_keys, summary}
+use Rattle.group_values.specs.work.Groups.{IsSumOf}
+use Rattle.group_values.specs.work.Steps.{IsLastAlone, group_at, none}
 use Rattle.group_values.proofs.GroupLemmas.{AreUnlike, all-at, first-keys, firsts-unlike}
 use Rattle.group_values.specs.declared.shape.Call.{Call}
-use Rattle.group_values.specs.Neighbours.{AreTogether, seen_at}
+use Rattle.group_values.specs.work.Neighbours.{AreTogether, seen_at}
 
 -- a list from which tuples were left out
 abbrev IsPart : List Seen → List Seen → Type 0

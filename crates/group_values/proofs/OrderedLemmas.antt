@@ -13,8 +13,8 @@ use Rattle.group_values.specs.declared.shape.Sorter.{Sorter}
 use Rattle.group_values.specs.Groups.{Seen, alike, firsts, groups, line, lines, sorted, sorter_order, summaries, summary}
 use Rattle.group_values.specs.Shapes.{GroupShape, Summary}
 use Rattle.group_values.proofs.GroupLemmas.{first-keys}
-use Rattle.group_values.specs.Grouping.{final_shape}
-use Rattle.group_values.specs.Neighbours.{tuple_order}
+use Rattle.group_values.specs.work.Grouping.{final_shape}
+use Rattle.group_values.specs.work.Neighbours.{tuple_order}
 use Rattle.group_values.proofs.FinalLemmas.{unsorted}
 use Rattle.pg_base.proofs.ListLemmas.{all-filter}
 

@@ -3,14 +3,15 @@ use Rattle.std.proofs.Common.{◌≡◌, ℕ, ◌<◌, true, List, [], ◌∷◌
 use Rattle.std.specs.Prelude.{OnOk, OnErr}
 use Rattle.pg_value.specs.declared.value.Value.{Value}
 use Rattle.group_values.specs.declared.shape.Call.{Call}
-use Rattle.group_values.specs.Groups.{IsSumOf, Seen}
+use Rattle.group_values.specs.Groups.{Seen}
+use Rattle.group_values.specs.work.Groups.{IsSumOf}
 use Rattle.group_values.specs.Shapes.{GroupShape, Summary}
-use Rattle.group_values.specs.Steps.{AreWhole, begun, group_at, have_room, joined}
+use Rattle.group_values.specs.work.Steps.{AreWhole, begun, group_at, have_room, joined}
 use Rattle.group_values.proofs.SumLemmas.{begins, joins}
 use Rattle.group_values.specs.declared.listing.Finder.{Finder}
-use Rattle.group_values.specs.Grouping.{AreOf, Grouping}
-use Rattle.group_values.specs.Listing.{HasNoted}
-use Rattle.group_values.specs.Places.{HasNoGroup, IsGroupOf}
+use Rattle.group_values.specs.work.Grouping.{AreOf, Grouping}
+use Rattle.group_values.specs.work.Listing.{HasNoted}
+use Rattle.group_values.specs.work.Places.{HasNoGroup, IsGroupOf}
 use Rattle.group_values.proofs.ListingLemmas.{finds-joined, whole-begun, whole-joined}
 
 abbrev seen : List Value → List Value → Seen

@@ -7,7 +7,7 @@ use Rattle.std.proofs.lemmas.Bool.{true≢false}
 use Rattle.std.proofs.lemmas.List.{get_or-map, length-map}
 use Rattle.pg_value.specs.Sorting.{IsInOrder}
 use Rattle.group_values.specs.Groups.{Seen, alike}
-use Rattle.group_values.specs.Neighbours.{AreTogether, seen_at}
+use Rattle.group_values.specs.work.Neighbours.{AreTogether, seen_at}
 
 module _ {X : Type 0} (order : X → X → Ordering) (total : IsTotalOrder order) where
   -- one between two that tie ties with them

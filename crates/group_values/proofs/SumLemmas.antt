@@ -8,8 +8,9 @@ use Rattle.std.proofs.lemmas.List.Elements.{All-push, All-head}
 use Rattle.pg_value.specs.declared.value.Value.{Value}
 use Rattle.group_values.specs.declared.shape.Call.{Call}
 use Rattle.group_values.specs.Shapes.{GroupShape, Summary}
-use Rattle.group_values.specs.Groups.{IsSumOf, Seen, alike, all_called, firsts, groups, keys_of_group, same_keys, summary}
-use Rattle.group_values.specs.Steps.{at_first, begun, blank, group_at, have_room, joined, none, with_args}
+use Rattle.group_values.specs.Groups.{Seen, alike, all_called, firsts, groups, keys_of_group, same_keys, summary}
+use Rattle.group_values.specs.work.Groups.{IsSumOf}
+use Rattle.group_values.specs.work.Steps.{at_first, begun, blank, group_at, have_room, joined, none, with_args}
 use Rattle.group_values.proofs.CallLemmas.{blank-room, calls-more, none-called}
 use Rattle.group_values.proofs.GroupLemmas.{alike_equiv, all-at, any-at, any-first, any-none, first-keys, firsts-more, firsts-unlike, group-more, is_alike_one, none-left, none-more, one-more}
 

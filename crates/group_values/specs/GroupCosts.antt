@@ -1,16 +1,11 @@
 -- What plans that group cost, in 1/400 of a sequential page (PostgreSQL, src/backend/optimizer/path/costsize.c, cost_agg; the
 -- rules are own). They are exact: no number is cut.
-use Rattle.std.specs.Prelude.{ℕ, ◌+◌, ◌*◌, ◌≤◌, Bool, true, cond, List, [], ◌∷◌, All, length, min, nat_lt}
-use Rattle.cost_rules.specs.Costs.{IsEstimate, pair, sort_cost}
+use Rattle.std.specs.Prelude.{ℕ, ◌+◌, ◌*◌, Bool, true, cond, List, [], ◌∷◌, length, min, nat_lt}
+use Rattle.cost_rules.specs.Costs.{pair, sort_cost}
 use Rattle.cost_rules.specs.declared.parameters.TheConstants.{OPERATOR, TUPLE}
 use Rattle.group_values.specs.declared.form.Form.{Form}
 use Rattle.group_values.specs.declared.form.Form.TheVariants.{Sorted, Hashed}
 use Rattle.group_values.specs.declared.task.GroupTask.{GroupTask}
-
--- rows are an estimate, and each group key has a value
-pub record IsTask (t : GroupTask) : Type 0 where
-  pub rows : IsEstimate t.rows
-  pub distinct : All (λ n. 1 ≤ n) t.distinct.items
 
 -- how many lists there are of one value of each column, where the columns have so many different ones
 abbrev pub combinations : List ℕ → ℕ

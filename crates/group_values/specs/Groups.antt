@@ -1,5 +1,5 @@
 -- Groups of tuples and the lines that they give (PostgreSQL manual, chapter Queries, GROUP BY; Aggregate Functions).
-use Rattle.std.specs.Prelude.{◌≡◌, ℕ, zero, suc, Bool, true, false, not, cond, List, [], ◌∷◌, All, length, map, filter, pos, slice_index_or}
+use Rattle.std.specs.Prelude.{ℕ, zero, suc, Bool, true, false, not, cond, List, [], ◌∷◌, length, map, filter, pos, slice_index_or}
 use Rattle.std.specs.Ordering.{is_eq, on}
 use Rattle.std.specs.declared.cmp.Ordering.{Ordering}
 use Rattle.pg_value.specs.declared.value.Value.{Value}
@@ -116,8 +116,3 @@ lines_of_groups shape gs = map (line shape.items) (sorted shape.order gs)
 -- one line for each group of tuples
 abbrev pub lines : GroupShape → List Seen → List (List Value)
 lines shape ss = lines_of_groups shape (summaries shape ss)
-
--- each tuple has as many keys as there are GROUP BY columns, and these are the groups of the tuples
-pub record IsSumOf (shape : GroupShape) (ss : List Seen) (gs : List Summary) : Type 0 where
-  pub widths : All (λ (s : Seen). length s.keys ≡ shape.width) ss
-  pub is : gs ≡ summaries shape ss

@@ -1,11 +1,4 @@
 pub mod Shapes
 pub mod Groups
-pub mod Steps
-pub mod Hash
-pub mod Places
-pub mod Chains
-pub mod Listing
-pub mod Grouping
-pub mod Neighbours
 pub mod GroupCosts
-pub mod Choice
+pub mod work

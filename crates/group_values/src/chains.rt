@@ -1,12 +1,12 @@
 //! Slots in chains, one chain for each bucket of hashes.
 
 ghost use Rattle.std.specs.Prelude.{◌≡◌, ◌<◌, ◌≤◌, ◌+◌, ◌%◌, ◌++◌, ◌∷◌, [], length, IfOk, IfSome, IfNone, OnOk, OnErr};
-ghost use Rattle.linked.specs.Lists.{list_of};
+ghost use Rattle.linked.specs.work.Lists.{list_of};
 ghost use Rattle.group_values.specs.Groups.{same_keys};
-ghost use Rattle.group_values.specs.Steps.{group_at};
-ghost use Rattle.group_values.specs.Chains.{HasRoom, IsChained, IsChainedBelow, first_for};
-ghost use Rattle.group_values.specs.Hash.{hash_of};
-ghost use Rattle.group_values.specs.Places.{HasNoGroup, IsGroupOf, hashes_of};
+ghost use Rattle.group_values.specs.work.Steps.{group_at};
+ghost use Rattle.group_values.specs.work.Chains.{HasRoom, IsChained, IsChainedBelow, first_for};
+ghost use Rattle.group_values.specs.work.Hash.{hash_of};
+ghost use Rattle.group_values.specs.work.Places.{HasNoGroup, IsGroupOf, hashes_of};
 
 use crate::hash::hash_keys;
 use crate::{Kept, same_keys};

@@ -2,7 +2,7 @@
 
 ghost use Rattle.std.specs.Prelude.{◌≡◌, map, IfOk, OnOk};
 ghost use Rattle.group_values.specs.Groups.{line, lines_of_groups, sorted};
-ghost use Rattle.group_values.specs.Grouping.{final_shape};
+ghost use Rattle.group_values.specs.work.Grouping.{final_shape};
 
 use crate::{Kept, Lines, Shape, Shown, Sorter, compare};
 use pg_base::Memory;

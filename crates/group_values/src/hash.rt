@@ -3,7 +3,7 @@
 ghost use Rattle.std.specs.Prelude.{◌≡◌};
 ghost use Rattle.std.specs.List.{fold};
 ghost use Rattle.std.specs.Hash.FoldHasher.{write};
-ghost use Rattle.group_values.specs.Hash.{fed, hash_of};
+ghost use Rattle.group_values.specs.work.Hash.{fed, hash_of};
 
 use pg_value::Value;
 use std::hash::{FoldHasher, Hasher};

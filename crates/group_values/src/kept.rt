@@ -3,7 +3,7 @@
 ghost use Rattle.std.specs.Prelude.{◌≡◌, length, map, slice_index_or, IfOk};
 ghost use Rattle.pg_value.specs.declared.value.Value.TheVariants.{Null};
 ghost use Rattle.group_values.specs.Groups.{shown_value, line};
-ghost use Rattle.group_values.specs.Steps.{begun, blank, can_rise, first_of, has_room, have_room, joined, risen, with_args, with_one};
+ghost use Rattle.group_values.specs.work.Steps.{begun, blank, can_rise, first_of, has_room, have_room, joined, risen, with_args, with_one};
 
 use crate::lists::Values;
 use crate::orders::directed_order;

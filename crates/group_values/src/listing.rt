@@ -2,9 +2,9 @@
 
 ghost use Rattle.std.specs.Prelude.{◌≡◌, ◌<◌, ◌++◌, ◌∷◌, [], length, slice_set, true, IfOk, IfSome, IfNone, OnOk, OnErr};
 ghost use Rattle.group_values.specs.Shapes.{Summary};
-ghost use Rattle.group_values.specs.Steps.{AreWhole, IsLastAlone, group_at, have_room, joined};
-ghost use Rattle.group_values.specs.Listing.{HasNoted, IsListing, form_of};
-ghost use Rattle.group_values.specs.Places.{HasNoGroup, IsGroupOf};
+ghost use Rattle.group_values.specs.work.Steps.{AreWhole, IsLastAlone, group_at, have_room, joined};
+ghost use Rattle.group_values.specs.work.Listing.{HasNoted, IsListing, form_of};
+ghost use Rattle.group_values.specs.work.Places.{HasNoGroup, IsGroupOf};
 ghost use Rattle.group_values.specs.declared.form.Form.TheVariants.{Sorted};
 
 use crate::chains::Chains;

@@ -5,11 +5,12 @@ ghost use Rattle.std.specs.Cmp.{IsTotalOrder};
 ghost use Rattle.std.specs.Ordering.{is_eq};
 ghost use Rattle.std.specs.declared.cmp.Ordering.{Ordering};
 ghost use Rattle.pg_value.specs.Sorting.{IsInOrder, one_after_other};
-ghost use Rattle.group_values.specs.Groups.{IsSumOf, Seen, alike, lines};
+ghost use Rattle.group_values.specs.Groups.{Seen, alike, lines};
+ghost use Rattle.group_values.specs.work.Groups.{IsSumOf};
 ghost use Rattle.group_values.specs.Shapes.{GroupShape, Summary};
-ghost use Rattle.group_values.specs.Steps.{IsLastAlone};
-ghost use Rattle.group_values.specs.Grouping.{final_shape};
-ghost use Rattle.group_values.specs.Neighbours.{AreTogether, tuple_order};
+ghost use Rattle.group_values.specs.work.Steps.{IsLastAlone};
+ghost use Rattle.group_values.specs.work.Grouping.{final_shape};
+ghost use Rattle.group_values.specs.work.Neighbours.{AreTogether, tuple_order};
 
 /// Where the tuples of each group come one after another, no group but the last has the keys of the tuple that comes next,
 /// whatever comes later.

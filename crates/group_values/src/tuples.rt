@@ -2,9 +2,9 @@
 
 ghost use Rattle.std.specs.Prelude.{◌≡◌, ◌++◌, ◌∷◌, [], List, length, IfOk, OnOk, OnErr};
 ghost use Rattle.group_values.specs.Groups.{Seen, lines};
-ghost use Rattle.group_values.specs.Steps.{IsLastAlone, at_first};
-ghost use Rattle.group_values.specs.Grouping.{AreOf, final_shape, with_groups};
-ghost use Rattle.group_values.specs.Listing.{IsListing, form_of};
+ghost use Rattle.group_values.specs.work.Steps.{IsLastAlone, at_first};
+ghost use Rattle.group_values.specs.work.Grouping.{AreOf, final_shape, with_groups};
+ghost use Rattle.group_values.specs.work.Listing.{IsListing, form_of};
 ghost use Rattle.group_values.specs.declared.form.Form.TheVariants.{Sorted};
 
 use crate::finish::final_lines;
@@ -35,8 +35,8 @@ impl Drop for Groups {
 }
 
 impl Model for Groups {
-    ghost use Rattle.group_values.specs.Grouping.{Grouping};
-    ghost use Rattle.group_values.specs.Listing.{IsListing, form_of};
+    ghost use Rattle.group_values.specs.work.Grouping.{Grouping};
+    ghost use Rattle.group_values.specs.work.Listing.{IsListing, form_of};
 
     ghost Value = { Grouping };
 

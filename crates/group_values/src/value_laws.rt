@@ -2,9 +2,10 @@
 
 ghost use Rattle.std.specs.Prelude.{◌≡◌, ℕ, ◌<◌, List, [], ◌∷◌, ◌++◌, length, slice_set, true, false};
 ghost use Rattle.pg_value.specs.declared.value.Value.{Value as AnyValue};
-ghost use Rattle.group_values.specs.Groups.{IsSumOf, Seen, same_keys};
+ghost use Rattle.group_values.specs.Groups.{Seen, same_keys};
+ghost use Rattle.group_values.specs.work.Groups.{IsSumOf};
 ghost use Rattle.group_values.specs.Shapes.{GroupShape, Summary};
-ghost use Rattle.group_values.specs.Steps.{at_first, begun, group_at, have_room, joined};
+ghost use Rattle.group_values.specs.work.Steps.{at_first, begun, group_at, have_room, joined};
 
 /// Before the first tuple there is no group, or where no column is grouped by the one of no tuple.
 pub fn no_tuple_is_seen()

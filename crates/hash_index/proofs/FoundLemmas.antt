@@ -6,14 +6,14 @@ use Rattle.std.proofs.lemmas.List.{append-nil, get_or-map, length-map}
 use Rattle.std.proofs.lemmas.List.Elements.{filter-append}
 use Rattle.pg_base.specs.declared.numbers.Tid.{Tid}
 use Rattle.pg_value.specs.declared.value.Value.{Value}
-use Rattle.pg_value.specs.Order.{IsOfFamily}
+use Rattle.pg_value.specs.work.Order.{IsOfFamily}
 use Rattle.pg_value.specs.Sorting.{IsInOrder, in_order}
 use Rattle.pg_value.proofs.SortingLemmas.{in_order_fixed, in_order_is, All-in_order}
 use Rattle.opfamily.specs.declared.classes.IndexKey.{IndexKey}
 use Rattle.opfamily.specs.KeyOrder.{key_family, key_order}
-use Rattle.hash_index.specs.Held.{Held, held_order, IsKnown, IsLawfulHash, rows_equal}
-use Rattle.hash_index.specs.Groups.{AreRising, RowsOf, group_at, held_by, held_in, held_of, value_at}
-use Rattle.hash_index.specs.Chains.{AreChained}
+use Rattle.hash_index.specs.work.Held.{Held, held_order, IsKnown, IsLawfulHash, rows_equal}
+use Rattle.hash_index.specs.work.Groups.{AreRising, RowsOf, group_at, held_by, held_in, held_of, value_at}
+use Rattle.hash_index.specs.work.Chains.{AreChained}
 use Rattle.hash_index.proofs.ChainLemmas.{sorted_filter}
 use Rattle.hash_index.proofs.GroupLemmas.{held}
 use Rattle.hash_index.proofs.HeldLemmas.{held_total, key_same, ties_equal}

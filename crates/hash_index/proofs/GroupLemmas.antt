@@ -8,9 +8,9 @@ use Rattle.std.proofs.lemmas.List.Elements.{All-head, All-tail, All-append, All-
 use Rattle.pg_base.specs.declared.numbers.Tid.{Tid}
 use Rattle.pg_value.specs.declared.value.Value.{Value}
 use Rattle.pg_value.specs.declared.value.Value.TheVariants.{Null}
-use Rattle.hash_index.specs.Held.{Held}
-use Rattle.hash_index.specs.Groups.{RowsOf, HasPut, below, blank, group_at, held_by, held_of, value_at, with_tid, without_at, without_tid}
-use Rattle.hash_index.specs.Chains.{IsWider}
+use Rattle.hash_index.specs.work.Held.{Held}
+use Rattle.hash_index.specs.work.Groups.{RowsOf, HasPut, below, blank, group_at, held_by, held_of, value_at, with_tid, without_at, without_tid}
+use Rattle.hash_index.specs.work.Chains.{IsWider}
 
 abbrev pub held : Value → Tid → Held
 held v t = record { value = v; row = t.0 }

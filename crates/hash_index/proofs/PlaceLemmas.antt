@@ -7,7 +7,7 @@ use Rattle.std.proofs.lemmas.List.Elements.{All-head, All-tail, All-append, All-
 use Rattle.pg_base.specs.declared.numbers.Tid.{Tid}
 use Rattle.pg_value.specs.declared.operators.Op.TheVariants.{Eq}
 use Rattle.pg_value.specs.declared.value.Value.{Value}
-use Rattle.pg_value.specs.Order.{IsOfFamily}
+use Rattle.pg_value.specs.work.Order.{IsOfFamily}
 use Rattle.pg_value.specs.Sorting.{in_order}
 use Rattle.pg_value.proofs.SortingLemmas.{in_order_again}
 use Rattle.opfamily.specs.declared.classes.IndexKey.{IndexKey}
@@ -15,9 +15,9 @@ use Rattle.opfamily.specs.declared.classes.Method.TheVariants.{Hash}
 use Rattle.opfamily.specs.Answers.{number_in}
 use Rattle.opfamily.specs.KeyOrder.{key_family}
 use Rattle.hash_index.specs.declared.chains.Place.{Place}
-use Rattle.hash_index.specs.Held.{Held, HashTable, held_order}
-use Rattle.hash_index.specs.Groups.{RowsOf, HasPut, held_by, held_in, held_of, value_at, without_at}
-use Rattle.hash_index.specs.Chains.{IsWider, taken_back}
+use Rattle.hash_index.specs.work.Held.{Held, HashTable, held_order}
+use Rattle.hash_index.specs.work.Groups.{RowsOf, HasPut, held_by, held_in, held_of, value_at, without_at}
+use Rattle.hash_index.specs.work.Chains.{IsWider, taken_back}
 use Rattle.hash_index.proofs.ChainLemmas.{sorted_moved}
 use Rattle.hash_index.proofs.HeldLemmas.{held_total}
 use Rattle.hash_index.proofs.TieLemmas.{same_held}

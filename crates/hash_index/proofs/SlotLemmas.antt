@@ -7,14 +7,14 @@ use Rattle.std.proofs.lemmas.List.Elements.{All-append, All-push, All-weaker}
 use Rattle.std.proofs.lemmas.Nat.{mod_below}
 use Rattle.pg_value.specs.declared.value.Value.{Value}
 use Rattle.pg_value.specs.declared.value.Value.TheVariants.{Null}
-use Rattle.pg_value.specs.Order.{IsOfFamily}
+use Rattle.pg_value.specs.work.Order.{IsOfFamily}
 use Rattle.opfamily.specs.declared.classes.IndexKey.{IndexKey}
 use Rattle.opfamily.specs.KeyOrder.{key_family}
-use Rattle.linked.specs.Lists.{AreLists, has, list_of, behind}
-use Rattle.hash_index.specs.Hash.{hash_of}
-use Rattle.hash_index.specs.Held.{IsKnown}
-use Rattle.hash_index.specs.Groups.{RowsOf, blank, value_at}
-use Rattle.hash_index.specs.Chains.{AreSlots, AreChained, IsWider, head_for, stands_behind}
+use Rattle.linked.specs.work.Lists.{AreLists, has, list_of, behind}
+use Rattle.hash_index.specs.work.Hash.{hash_of}
+use Rattle.hash_index.specs.work.Held.{IsKnown}
+use Rattle.hash_index.specs.work.Groups.{RowsOf, blank, value_at}
+use Rattle.hash_index.specs.work.Chains.{AreSlots, AreChained, IsWider, head_for, stands_behind}
 use Rattle.hash_index.proofs.GroupLemmas.{push_kept, push_last, push_null, push_other, wider_on, wider_push, wider_same}
 
 -- what holds holds of an error

@@ -12,13 +12,13 @@ use Rattle.pg_value.specs.declared.operators.Family.TheVariants.{Integer, IntAbs
 use Rattle.pg_value.specs.declared.operators.Op.TheVariants.{Eq}
 use Rattle.pg_value.specs.declared.value.Value.{Value}
 use Rattle.pg_value.specs.declared.value.Value.TheVariants.{Null, Int, Bool as Flag, Text as String}
-use Rattle.pg_value.specs.Order.{IsOfFamily}
+use Rattle.pg_value.specs.work.Order.{IsOfFamily}
 use Rattle.pg_value.specs.ColumnOrder.{place_of_null, directed, column_order}
 use Rattle.opfamily.specs.declared.classes.IndexKey.{IndexKey}
 use Rattle.opfamily.specs.declared.classes.Method.TheVariants.{Hash}
 use Rattle.opfamily.specs.Answers.{number_in}
 use Rattle.opfamily.specs.KeyOrder.{key_family, key_order}
-use Rattle.hash_index.specs.Held.{Held, held_order}
+use Rattle.hash_index.specs.work.Held.{Held, held_order}
 
 from_rank : (P Q R : Type 0) (o : Ordering) → MatchOrdering o P Q R → is_eq o ≡ true → Q
 from_rank P Q R Less m e = absurd (false≢true e)

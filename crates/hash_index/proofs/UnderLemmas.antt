@@ -2,10 +2,10 @@
 use Rattle.std.proofs.Common.{◌≡◌, ◌≢◌, ℕ, ◌<◌, Bool, true, false, cond, not, ◌||◌, eqb, List, [], ◌∷◌, length, map, refl, sym, ap, ◌∙◌, arith}
 use Rattle.std.proofs.lemmas.Bool.{eqb-true, ne_eqb, eq-eqb}
 use Rattle.std.proofs.lemmas.List.{get_or-map, get_or-set_other, get_or-set_same, length-set, length-map}
-use Rattle.linked.specs.Lists.{AreLists, has, list_of, behind, put_after, without, with_after, with_alone}
+use Rattle.linked.specs.work.Lists.{AreLists, has, list_of, behind, put_after, without, with_after, with_alone}
 use Rattle.linked.proofs.ListLemmas.{put_parts}
 use Rattle.linked.proofs.ChangeLemmas.{put_has_other, without_has_other, put-behind}
-use Rattle.hash_index.specs.Chains.{stands_behind}
+use Rattle.hash_index.specs.work.Chains.{stands_behind}
 
 without_behind : (slot h s : ℕ) (xs : List ℕ) → h ≢ slot → s ≢ slot → has s (behind h xs) ≡ true → has s (behind h (without slot xs)) ≡ true
 without_behind slot h s [] hs ss e = e

@@ -4,14 +4,14 @@ use Rattle.std.specs.Prelude.{Option, Some, None, IfSome}
 use Rattle.std.specs.Ordering.{is_eq}
 use Rattle.std.proofs.lemmas.Bool.{true≢false, false≢true, eq-eqb, ne_eqb}
 use Rattle.pg_value.specs.declared.value.Value.{Value}
-use Rattle.pg_value.specs.Order.{IsOfFamily}
+use Rattle.pg_value.specs.work.Order.{IsOfFamily}
 use Rattle.opfamily.specs.declared.classes.IndexKey.{IndexKey}
 use Rattle.opfamily.specs.KeyOrder.{key_family, key_order}
-use Rattle.linked.specs.Lists.{AreLists, AreApart, has, list_of, first, next_in, behind}
+use Rattle.linked.specs.work.Lists.{AreLists, AreApart, has, list_of, first, next_in, behind}
 use Rattle.linked.proofs.ListLemmas.{next_behind, behind_in, step_on}
-use Rattle.hash_index.specs.Held.{IsKnown}
-use Rattle.hash_index.specs.Groups.{RowsOf, value_at}
-use Rattle.hash_index.specs.Chains.{AreChained, head_for, stands_behind}
+use Rattle.hash_index.specs.work.Held.{IsKnown}
+use Rattle.hash_index.specs.work.Groups.{RowsOf, value_at}
+use Rattle.hash_index.specs.work.Chains.{AreChained, head_for, stands_behind}
 use Rattle.hash_index.proofs.HeldLemmas.{key_same}
 use Rattle.hash_index.proofs.TieLemmas.{same_values}
 

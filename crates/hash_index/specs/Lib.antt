@@ -1,4 +1,1 @@
-pub mod Chains
-pub mod Groups
-pub mod Hash
-pub mod Held
+pub mod work

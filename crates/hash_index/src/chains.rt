@@ -2,16 +2,16 @@
 
 ghost use Rattle.std.specs.Prelude.{◌≡◌, ◌≢◌, ℕ, ◌<◌, ◌≤◌, ◌+◌, ◌-◌, ◌^◌, ◌++◌, ◌∷◌, [], length, map, filter, nat_lt, IfOk, IfSome, IfNone, OnOk, OnErr, is_some, true};
 ghost use Rattle.std.specs.Ordering.{is_eq};
-ghost use Rattle.linked.specs.Lists.{AreLists, list_of};
+ghost use Rattle.linked.specs.work.Lists.{AreLists, list_of};
 ghost use Rattle.pg_value.specs.declared.operators.Op.TheVariants.{Eq};
 ghost use Rattle.pg_value.specs.declared.value.Value.TheVariants.{Null};
-ghost use Rattle.pg_value.specs.Order.{IsOfFamily};
+ghost use Rattle.pg_value.specs.work.Order.{IsOfFamily};
 ghost use Rattle.opfamily.specs.declared.classes.Method.TheVariants.{Hash};
 ghost use Rattle.opfamily.specs.Answers.{number_in};
 ghost use Rattle.opfamily.specs.KeyOrder.{key_family, key_order};
-ghost use Rattle.hash_index.specs.Chains.{HasSlots, IsChained, IsWider, head_for, IsBehindHead, StaysBehind};
-ghost use Rattle.hash_index.specs.Groups.{HasPut, below, held_by, value_at, without_at, HaveSameValues, no_rows_of};
-ghost use Rattle.hash_index.specs.Held.{IsKnown};
+ghost use Rattle.hash_index.specs.work.Chains.{HasSlots, IsChained, IsWider, head_for, IsBehindHead, StaysBehind};
+ghost use Rattle.hash_index.specs.work.Groups.{HasPut, below, held_by, value_at, without_at, HaveSameValues, no_rows_of};
+ghost use Rattle.hash_index.specs.work.Held.{IsKnown};
 
 use crate::group::Group;
 use crate::hash::hash;

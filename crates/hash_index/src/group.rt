@@ -2,7 +2,7 @@
 
 ghost use Rattle.std.specs.Prelude.{◌≡◌, ◌≤◌, [], filter, length, nat_lt, IfOk, OnErr};
 ghost use Rattle.std.specs.List.{insert};
-ghost use Rattle.hash_index.specs.Groups.{AreRising, below, with_tid, without_tid};
+ghost use Rattle.hash_index.specs.work.Groups.{AreRising, below, with_tid, without_tid};
 
 use pg_base::Tid;
 use pg_value::Value;
@@ -17,7 +17,7 @@ pub(crate) struct Group {
 }
 
 impl Model for Group {
-    ghost use Rattle.hash_index.specs.Groups.{AreRising, RowsOf};
+    ghost use Rattle.hash_index.specs.work.Groups.{AreRising, RowsOf};
 
     ghost Value = { RowsOf };
 

@@ -2,14 +2,14 @@
 
 ghost use Rattle.std.specs.Prelude.{◌≡◌, ◌∷◌, ◌++◌, [], ◌<◌, length, map, All, IfOk, OnOk, OnErr, is_some, true};
 ghost use Rattle.pg_value.specs.declared.operators.Op.TheVariants.{Eq};
-ghost use Rattle.pg_value.specs.Order.{IsOfFamily};
+ghost use Rattle.pg_value.specs.work.Order.{IsOfFamily};
 ghost use Rattle.pg_value.specs.Sorting.{in_order};
 ghost use Rattle.opfamily.specs.declared.classes.Method.TheVariants.{Hash};
 ghost use Rattle.opfamily.specs.Answers.{number_in};
 ghost use Rattle.opfamily.specs.KeyOrder.{key_family};
-ghost use Rattle.hash_index.specs.Chains.{IsChained, taken_back};
-ghost use Rattle.hash_index.specs.Groups.{held_by};
-ghost use Rattle.hash_index.specs.Held.{IsLawfulHash, held_order, held_below, with_held, rows_equal};
+ghost use Rattle.hash_index.specs.work.Chains.{IsChained, taken_back};
+ghost use Rattle.hash_index.specs.work.Groups.{held_by};
+ghost use Rattle.hash_index.specs.work.Held.{IsLawfulHash, held_order, held_below, with_held, rows_equal};
 
 use crate::chains::{Chains, Place};
 use crate::rows::{Row, is_known};
@@ -37,9 +37,9 @@ impl Drop for HashIndex {
 }
 
 impl Model for HashIndex {
-    ghost use Rattle.hash_index.specs.Held.{HashTable};
-    ghost use Rattle.hash_index.specs.Groups.{held_in};
-    ghost use Rattle.hash_index.specs.Chains.{IsChained};
+    ghost use Rattle.hash_index.specs.work.Held.{HashTable};
+    ghost use Rattle.hash_index.specs.work.Groups.{held_in};
+    ghost use Rattle.hash_index.specs.work.Chains.{IsChained};
 
     ghost Value = { HashTable };
 

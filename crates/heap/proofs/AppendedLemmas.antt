@@ -2,9 +2,9 @@
 use Rattle.std.proofs.Common.{◌≡◌, ℕ, suc, ◌≤◌, ◌+◌, ◌*◌, List, [], ◌∷◌, ◌++◌, length, take, drop, refl, sym, ap, ap₂, subst, ◌∙◌, arith, length-append}
 use Rattle.std.proofs.lemmas.List.{take_all, take-append-drop, take-append-le, drop_all, drop-append-le}
 use Rattle.pg_value.specs.declared.columns.Column.{Column}
-use Rattle.heap.specs.Loading.{BeginsWith, appended, appended_rows}
+use Rattle.heap.specs.work.Loading.{BeginsWith, appended, appended_rows}
 use Rattle.heap.specs.Stored.{Values}
-use Rattle.heap.specs.Tuples.{runs_of}
+use Rattle.heap.specs.work.Tuples.{runs_of}
 use Rattle.heap.proofs.RunLemmas.{runs-before, runs-more, runs-split}
 
 -- nothing yet

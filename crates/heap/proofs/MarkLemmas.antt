@@ -9,7 +9,7 @@ use Rattle.std.proofs.lemmas.Bool.{cases_lt, false≢true}
 use Rattle.std.proofs.lemmas.Bool.Decides.{nat_tests}
 use Rattle.pg_base.specs.Sets.{has}
 use Rattle.pg_base.proofs.SetLaws.{has-or, has-and, has-zero, has-one_wide}
-use Rattle.heap.specs.TidSets.{is_marked}
+use Rattle.heap.specs.work.TidSets.{is_marked}
 use Rattle.pg_base.proofs.NumberLemmas.{same-place as one_place}
 use Rattle.pg_base.proofs.NumberLemmas.{other-place as other_place}
 

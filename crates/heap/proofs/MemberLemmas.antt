@@ -8,7 +8,7 @@ use Rattle.std.proofs.lemmas.List.Folds.{list_any-append}
 use Rattle.std.proofs.lemmas.List.FromFn.{filter_of_map_range_with_len_more}
 use Rattle.std.proofs.lemmas.Bool.{cases_lt}
 use Rattle.std.proofs.lemmas.Bool.Decides.{nat_tests}
-use Rattle.heap.specs.TidSets.{IsTidSet, TidSet, rows_passing, is_member, not_below}
+use Rattle.heap.specs.work.TidSets.{IsTidSet, TidSet, rows_passing, is_member, not_below}
 
 one_if : Bool → ℕ → List ℕ
 one_if b n = cond b (n ∷ []) []

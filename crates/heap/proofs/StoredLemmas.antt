@@ -6,8 +6,10 @@ use Rattle.std.proofs.lemmas.Option.{get_or_from_slice_get}
 use Rattle.pg_base.specs.declared.limits.TheConstants.{MOST_ROWS}
 use Rattle.pg_value.specs.declared.columns.Column.{Column}
 use Rattle.heap.specs.declared.fault.CopyFault.{CopyFault}
-use Rattle.heap.specs.Loading.{BeginsWith, loaded, appended_rows, rows_from, with_rows}
-use Rattle.heap.specs.Stored.{IsLawfulData, IsRowOf, IsWhole, Stored, Values, laid_out}
+use Rattle.heap.specs.Loading.{loaded, rows_from, with_rows}
+use Rattle.heap.specs.work.Loading.{BeginsWith, appended_rows}
+use Rattle.heap.specs.Stored.{IsLawfulData, IsRowOf, Stored, Values}
+use Rattle.heap.specs.work.Stored.{IsWhole, laid_out}
 use Rattle.heap.proofs.AppendedLemmas.{rows-joined}
 use Rattle.heap.proofs.RunLemmas.{first-runs, length-runs_of, run-inside, runs-at}
 

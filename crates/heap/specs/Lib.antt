@@ -1,5 +1,4 @@
 pub mod Loading
 pub mod Stored
 pub mod Tuples
-pub mod Lending
-pub mod TidSets
+pub mod work

@@ -1,5 +1,5 @@
 -- The rows that COPY data stand for, or the first fault of the data (PostgreSQL manual, COPY; `\N` is NULL in quotes too, own).
-use Rattle.std.specs.Prelude.{ℕ, ◌≡◌, ◌+◌, ◌-◌, ◌<◌, Bool, false, cond, List, [], ◌∷◌, ◌++◌, length, take, drop, nat_lt, nat_eq, Ok, Err, ◌≢◌}
+use Rattle.std.specs.Prelude.{ℕ, ◌+◌, ◌-◌, Bool, false, cond, List, [], ◌∷◌, ◌++◌, length, nat_lt, nat_eq, Ok, Err}
 use Rattle.std.specs.declared.result.Result.{Result}
 use Rattle.std.specs.Str.{bytes_eq}
 use Rattle.csv.specs.Reading.{default_config, records, strip_bom}
@@ -16,16 +16,7 @@ use Rattle.pg_value.specs.declared.value.Value.TheVariants.{Null}
 use Rattle.heap.specs.declared.fault.CopyFault.{CopyFault}
 use Rattle.heap.specs.declared.fault.CopyFault.TheVariants.{Arity, Range, Invalid, IsNull, TooLong, TooMany, Memory}
 use Rattle.heap.specs.Stored.{Stored, Values}
-use Rattle.heap.specs.Tuples.{runs_of}
 use Rattle.pg_value.specs.Fields.{null_text}
-
--- where a fault names a column, it is one of these
-abbrev pub NamesColumnOf : List Column → CopyFault → Type 0
-NamesColumnOf columns (Range rec col) = col.0 < length columns
-NamesColumnOf columns (Invalid rec col) = col.0 < length columns
-NamesColumnOf columns (IsNull rec col) = col.0 < length columns
-NamesColumnOf columns (TooLong rec col) = col.0 < length columns
-NamesColumnOf columns _ = Unit {0}
 
 -- the records of a block, each a list of fields: those of CSV without a header row, after a byte order mark if there is one
 abbrev pub records_of : List ℕ → List (List (List ℕ))
@@ -78,19 +69,3 @@ with_rows h (Err e) = Err e
 -- a heap after loading records, or the first fault; it has room for as many rows as a table may have
 abbrev pub loaded : Stored → List (List (List ℕ)) → Result Stored CopyFault
 loaded h rs = with_rows h (rows_from h.columns (MOST_ROWS - length h.rows) 1 rs)
-
--- a list at whose end values were put: it begins with what stood there
-abbrev pub BeginsWith : Values → Values → Type 0
-BeginsWith before after = take (length before) after ≡ before
-
--- the values that were put at the end of a list
-abbrev pub appended : Values → Values → Values
-appended before after = drop (length before) after
-
--- a number of rows whose values were put at the end of a list, one row after another
-abbrev pub appended_rows : List Column → ℕ → Values → Values → List Values
-appended_rows columns n before after = runs_of (length columns) n (appended before after)
-
--- a fault, unless memory ran out, is that of a reading
-abbrev pub IsFaultOf : {A : Type 0} → Result A CopyFault → CopyFault → Type 0
-IsFaultOf reading e = e ≢ Memory → reading ≡ Err e

@@ -1,5 +1,5 @@
 -- What a heap stands for, and which data are lawful. Own.
-use Rattle.std.specs.Prelude.{ℕ, ◌≡◌, ◌≢◌, ◌≤◌, ◌*◌, List, false, length}
+use Rattle.std.specs.Prelude.{◌≡◌, ◌≢◌, ◌≤◌, List, false, length}
 use Rattle.std.specs.List.{All, AllZip}
 use Rattle.pg_base.specs.declared.limits.TheConstants.{MOST_ROWS, MOST_TEXT_BYTES}
 use Rattle.pg_value.specs.Fields.{null_text}
@@ -7,7 +7,6 @@ use Rattle.pg_value.specs.Types.{IsOfType}
 use Rattle.pg_value.specs.declared.columns.Column.{Column}
 use Rattle.pg_value.specs.declared.value.Value.{Value}
 use Rattle.pg_value.specs.declared.value.Value.TheVariants.{Null, Text as String}
-use Rattle.heap.specs.Tuples.{runs_of}
 
 -- the values of a row, one for each column
 abbrev pub Values : Type 0
@@ -32,11 +31,3 @@ IsRowOf columns row = AllZip IsColumnValue columns row
 pub record IsLawfulData (h : Stored) : Type 0 where
   pub few : length h.rows ≤ MOST_ROWS
   pub each : All (IsRowOf h.columns) h.rows
-
--- some columns, and a number of rows of one value for each, one row after another in a flat list
-abbrev pub laid_out : List Column → ℕ → Values → Stored
-laid_out columns count values = record { columns = columns; rows = runs_of (length columns) count values }
-
--- a flat list has just the values of so many rows
-abbrev pub IsWhole : List Column → ℕ → Values → Type 0
-IsWhole columns count values = length values ≡ count * length columns

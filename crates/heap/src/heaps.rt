@@ -2,7 +2,7 @@
 
 ghost use Rattle.std.specs.Prelude.{◌≡◌, ◌<◌, ◌++◌, ◌∷◌, [], length, slice_get, Some, OnOk, OnErr};
 ghost use Rattle.std.specs.Borrow.{sem};
-ghost use Rattle.heap.specs.Lending.{LendsHeap};
+ghost use Rattle.heap.specs.work.Lending.{LendsHeap};
 
 use crate::counters::Counters;
 use crate::store::Heap;

@@ -2,8 +2,8 @@
 
 ghost use Rattle.std.specs.Prelude.{◌≡◌, ◌<◌, ℕ, Bool, List, false, length, slice_index_or, true};
 ghost use Rattle.pg_base.specs.declared.numbers.Tid.{Tid};
-ghost use Rattle.heap.specs.TidSets.{is_member, rows_passing};
-ghost use Rattle.heap.specs.Tuples.{padded, row_number};
+ghost use Rattle.heap.specs.work.TidSets.{is_member, rows_passing};
+ghost use Rattle.heap.specs.work.Tuples.{padded, row_number};
 
 /// A law: a tuple as one of a query of n relations has n numbers: a relation of the set has the number of its row, each
 /// other relation 0.

@@ -6,7 +6,8 @@ ghost use Rattle.csv.specs.Reading.{error_kind, stops_reader};
 ghost use Rattle.csv.specs.Records.{fields_of};
 ghost use Rattle.pg_base.specs.declared.limits.TheConstants.{MOST_COLUMNS, MOST_ROWS};
 ghost use Rattle.pg_value.specs.declared.columns.Column.{Column};
-ghost use Rattle.heap.specs.Loading.{BeginsWith, NamesColumnOf, appended, records_of, field, row, appended_rows, rows_from, is_long, IsFaultOf};
+ghost use Rattle.heap.specs.Loading.{records_of, field, row, rows_from, is_long};
+ghost use Rattle.heap.specs.work.Loading.{BeginsWith, NamesColumnOf, appended, appended_rows, IsFaultOf};
 ghost use Rattle.heap.specs.Stored.{IsRowOf, IsColumnValue};
 
 use crate::fault::CopyFault;

@@ -2,7 +2,8 @@
 
 ghost use Rattle.std.specs.Prelude.{◌≡◌, ◌+◌, ◌<◌, ◌≤◌, [], length, take, slice_get, Some, Ok, Err, IfOk, IfErr, OnErr};
 ghost use Rattle.pg_base.specs.declared.limits.TheConstants.{MOST_COLUMNS, MOST_ROWS};
-ghost use Rattle.heap.specs.Loading.{NamesColumnOf, records_of, loaded, IsFaultOf};
+ghost use Rattle.heap.specs.Loading.{records_of, loaded};
+ghost use Rattle.heap.specs.work.Loading.{NamesColumnOf, IsFaultOf};
 ghost use Rattle.heap.specs.Stored.{IsLawfulData, IsRowOf};
 
 use crate::counters::Counters;
@@ -48,7 +49,8 @@ impl<C: Counters> Drop for Heap<C> {
 }
 
 impl<C: Counters> Model for Heap<C> {
-    ghost use Rattle.heap.specs.Stored.{Stored, IsLawfulData, IsWhole, laid_out};
+    ghost use Rattle.heap.specs.Stored.{Stored, IsLawfulData};
+    ghost use Rattle.heap.specs.work.Stored.{IsWhole, laid_out};
 
     ghost Value = { Stored };
 

@@ -2,7 +2,7 @@
 
 ghost use Rattle.std.specs.Prelude.{◌≡◌, ◌<◌, ◌≤◌, ◌+◌, ◌*◌, ◌^◌, ◌/◌, ◌%◌, ◌||◌, ◌∷◌, [], ℕ, false, length, nat_eq, slice_index_or, bit_and, bit_or, IfSome, IfNone, IfOk};
 ghost use Rattle.pg_base.specs.Sets.{has};
-ghost use Rattle.heap.specs.TidSets.{IsTidSet, is_marked, not_below, rows_passing, IsNextBit, IsNextMarked, rows_of_either, common_rows, with_member};
+ghost use Rattle.heap.specs.work.TidSets.{IsTidSet, is_marked, not_below, rows_passing, IsNextBit, IsNextMarked, rows_of_either, common_rows, with_member};
 
 use pg_base::{Memory, Tid};
 use std::alloc::Global;
@@ -22,7 +22,7 @@ impl Drop for Tids {
 
 impl Model for Tids {
     ghost use Rattle.std.specs.Prelude.{◌≡◌, ◌+◌, ◌/◌, length};
-    ghost use Rattle.heap.specs.TidSets.{TidSet, is_marked, rows_passing};
+    ghost use Rattle.heap.specs.work.TidSets.{TidSet, is_marked, rows_passing};
 
     ghost Value = { TidSet };
 

@@ -5,7 +5,7 @@ use Rattle.std.proofs.lemmas.Bool.{and_parts, true≢false}
 use Rattle.std.proofs.lemmas.List.{length-map}
 use Rattle.pg_expr.specs.Cond.{Cond, compare, is_null, is_not_null, bool_col, const, all_of, any_of, negation, Conds, no_conds, cond_and, conds_of}
 use Rattle.pg_expr.specs.Columns.{atom_count, atom_count_of}
-use Rattle.predicate_proof.specs.Atoms.{is_all}
+use Rattle.predicate_proof.specs.work.Atoms.{is_all}
 use Rattle.catalog.specs.Indexes.{Index}
 use Rattle.eq_classes.specs.Classes.{listed}
 use Rattle.eq_classes.proofs.WordLemmas.{grown}
@@ -13,7 +13,7 @@ use Rattle.index_match.specs.Numbered.{Numbered, numbered, numbered_from_0, has_
 use Rattle.index_match.specs.Conditions.{is_condition}
 use Rattle.index_match.specs.Bounds.{bounds_among}
 use Rattle.index_match.specs.Arms.{arm_parts, takes_parts, is_matched, arm_bounds}
-use Rattle.index_match.specs.Slots.{numbered_at, numbered_from, bound_at}
+use Rattle.index_match.specs.work.Slots.{numbered_at, numbered_from, bound_at}
 use Rattle.index_match.proofs.BoundLemmas.{bounds_are, bounds_below}
 use Rattle.eq_classes.proofs.ConditionLemmas.{listed_conds}
 

@@ -10,7 +10,7 @@ use Rattle.catalog.specs.Indexes.{Index}
 use Rattle.index_match.specs.Numbered.{Numbered, has_number}
 use Rattle.index_match.specs.Conditions.{has_key_form}
 use Rattle.index_match.specs.Bounds.{is_fixing, on_key, bounding, bounds_among}
-use Rattle.index_match.specs.Slots.{numbered_at, numbered_from, passes, is_on_key, is_fixing_on, bound_at}
+use Rattle.index_match.specs.work.Slots.{numbered_at, numbered_from, passes, is_on_key, is_fixing_on, bound_at}
 use Rattle.pg_base.proofs.BoolLemmas.{either as or_step}
 
 and_true : (a b : Bool) → (a && true) || b ≡ a || b

@@ -15,8 +15,9 @@ use Rattle.eq_classes.specs.Listing.{clause_at}
 use Rattle.eq_classes.proofs.WordLemmas.{grown}
 use Rattle.index_match.specs.Numbered.{Numbered, numbered, has_number, those, local, conditions_of}
 use Rattle.index_match.specs.Conditions.{is_condition, allowed, conditions_among, index_conditions}
-use Rattle.index_match.specs.Bounds.{bounds_among, index_bounds, index_tests}
-use Rattle.index_match.specs.Slots.{chosen_from, placed, numbered_at, numbered_from, passes, is_found, is_number, least, bound_at}
+use Rattle.index_match.specs.Bounds.{bounds_among, index_bounds}
+use Rattle.index_match.specs.work.Bounds.{index_tests}
+use Rattle.index_match.specs.work.Slots.{chosen_from, placed, numbered_at, numbered_from, passes, is_found, is_number, least, bound_at}
 use Rattle.index_match.proofs.SlotLemmas.{chosen_length, chosen_at}
 use Rattle.index_match.proofs.BoundLemmas.{numbered_places, bounds_are, number_filter}
 use Rattle.eq_classes.specs.Parts.{is_local}

@@ -11,7 +11,8 @@ use Rattle.eq_classes.specs.Clauses.{Clause, Set, ClassTable}
 use Rattle.eq_classes.specs.Listing.{clause_at}
 use Rattle.index_match.specs.Numbered.{Numbered, numbered, has_number, those, local, conditions_of}
 use Rattle.index_match.specs.Conditions.{allowed, is_condition, index_conditions}
-use Rattle.index_match.specs.Bounds.{bounding, index_bounds, index_tests}
+use Rattle.index_match.specs.Bounds.{bounding, index_bounds}
+use Rattle.index_match.specs.work.Bounds.{index_tests}
 use Rattle.index_match.proofs.BoundLemmas.{any_filter, number_filter}
 use Rattle.index_match.proofs.FoundLemmas.{those_are, chosen_numbers}
 use Rattle.pg_base.proofs.ListLemmas.{any-take as any_take}

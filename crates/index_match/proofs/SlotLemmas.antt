@@ -5,7 +5,7 @@ use Rattle.pg_expr.specs.Cond.{Cond}
 use Rattle.eq_classes.specs.Clauses.{Clause}
 use Rattle.eq_classes.specs.Listing.{clause_at}
 use Rattle.eq_classes.proofs.WordLemmas.{grown}
-use Rattle.index_match.specs.Slots.{chosen_from, placed}
+use Rattle.index_match.specs.work.Slots.{chosen_from, placed}
 
 -- there are as many places as clauses
 pub chosen_length : (n : ℕ) (chosen : ℕ → Bool) (ks : List Clause) → length (chosen_from n chosen ks) ≡ length ks

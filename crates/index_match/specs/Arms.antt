@@ -5,18 +5,11 @@ use Rattle.catalog.specs.opfamily_classes_Method.{Method}
 use Rattle.catalog.specs.opfamily_classes_Method_TheVariants.{Btree, Hash}
 use Rattle.pg_expr.specs.Cond.{Cond, any_of}
 use Rattle.pg_expr.specs.Pushed.{parts_of}
-use Rattle.pg_expr.specs.View as view
 use Rattle.catalog.specs.Indexes.{Index}
 use Rattle.eq_classes.specs.Classes.{listed}
-use Rattle.index_match.specs.Numbered.{Numbered, numbered_from_0, has_number}
-use Rattle.index_match.specs.Conditions.{is_condition, are_conditions}
+use Rattle.index_match.specs.Numbered.{Numbered, numbered_from_0}
+use Rattle.index_match.specs.Conditions.{is_condition}
 use Rattle.index_match.specs.Bounds.{bounds_among}
-use Rattle.pg_base.specs.declared.numbers.IndexNo.{IndexNo}
-use Rattle.pg_base.specs.declared.numbers.RelNo.{RelNo}
-use Rattle.pg_expr.specs.declared.expr.Expr.{Expr}
-use Rattle.catalog.specs.Contents.{Contents, index_at}
-use Rattle.catalog.specs.Entries.{index_of}
-use Rattle.catalog.specs.declared.index_def.IndexDef.{IndexDef}
 
 -- the arms of an OR; another condition has none
 abbrev pub arms_of : Cond → List Cond
@@ -32,10 +25,6 @@ abbrev pub takes_parts : Method → ℕ → Bool
 takes_parts Btree n = nat_lt 0 n
 takes_parts Hash n = nat_eq n 1
 
--- an index wholly matches an arm of these parts
-abbrev pub parts_matched : IndexDef → ℕ → List Expr → Bool
-parts_matched d r es = takes_parts d.method (length es) && are_conditions (index_of d) r es
-
 -- an arm is wholly matched: each part is of a condition's form, and there is one at least
 abbrev pub is_matched : Index → ℕ → Cond → Bool
 is_matched d r arm = takes_parts d.method (length (arm_parts arm)) && list_all (is_condition d r) (arm_parts arm)
@@ -43,7 +32,3 @@ is_matched d r arm = takes_parts d.method (length (arm_parts arm)) && list_all (
 -- the parts of an arm that are bounds, with their places
 abbrev pub arm_bounds : Index → ℕ → Cond → List Numbered
 arm_bounds d r arm = bounds_among d r (numbered_from_0 (arm_parts arm))
-
--- a number is that of a part of an arm that is a bound
-abbrev pub bounds_arm : Contents → IndexNo → RelNo → Expr → ℕ → Bool
-bounds_arm c i r arm n = has_number (arm_bounds (index_at c i) r.0 (view.cond arm)) n

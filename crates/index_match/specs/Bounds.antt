@@ -8,11 +8,8 @@ use Rattle.pg_expr.specs.Cond.{Cond, compare, is_null}
 use Rattle.catalog.specs.Contents.{Contents, index_at}
 use Rattle.catalog.specs.Indexes.{Index}
 use Rattle.eq_classes.specs.Clauses.{Set, ClassTable}
-use Rattle.index_match.specs.Numbered.{Numbered, is_one_of_chosen, others, has_number}
+use Rattle.index_match.specs.Numbered.{Numbered, is_one_of_chosen}
 use Rattle.index_match.specs.Conditions.{has_key_form, index_conditions}
-use Rattle.pg_base.specs.Sets.{has}
-use Rattle.pg_base.specs.declared.numbers.RelNo.{RelNo}
-use Rattle.pg_base.specs.declared.rel_set.RelSet.{RelSet}
 
 -- a condition on a key column that leaves it one value: IS NULL, or the equality of the key's family
 abbrev pub is_fixing : Cond → Bool
@@ -42,15 +39,3 @@ bounds_among d r cs = filter (is_one_of_chosen (bounding d.method r d.keys cs)) 
 -- the bounds of an index, and its other conditions, which are tests of its entries
 abbrev pub index_bounds : Contents → ClassTable → IndexNo → ℕ → Set → List Numbered
 index_bounds c t i r p = bounds_among (index_at c i) r (index_conditions c t i r p)
-
--- the conditions of an index that bound nothing: each entry within the bounds is tested by them
-abbrev pub index_tests : Contents → ClassTable → IndexNo → ℕ → Set → List Numbered
-index_tests c t i r p = others (index_bounds c t i r p) (index_conditions c t i r p)
-
--- a number is that of a bound of an index
-abbrev pub is_bound_of : Contents → ClassTable → IndexNo → RelNo → RelSet → ℕ → Bool
-is_bound_of c t i r p n = has_number (index_bounds c t i r.0 (has p.0)) n
-
--- a number is that of a test of an index
-abbrev pub is_test_of : Contents → ClassTable → IndexNo → RelNo → RelSet → ℕ → Bool
-is_test_of c t i r p n = has_number (index_tests c t i r.0 (has p.0)) n

@@ -1,6 +1,6 @@
 -- The conditions of an index. Source: PostgreSQL manual, Multicolumn Indexes, Operator Classes and Operator Families; src/backend/optimizer/path/indxpath.c.
 use Rattle.std.specs.Prelude.{ℕ, Bool, true, false, not, ◌&&◌, ◌||◌, nat_eq, List, filter, take, is_some}
-use Rattle.std.specs.List.{list_any, list_all}
+use Rattle.std.specs.List.{list_any}
 use Rattle.pg_base.specs.declared.numbers.IndexNo.{IndexNo}
 use Rattle.catalog.specs.pg_value_operators_Op.{Op}
 use Rattle.catalog.specs.pg_value_value_Value_TheVariants.{Null}
@@ -13,15 +13,10 @@ use Rattle.pg_expr.specs.declared.operand.ColRef.{ColRef}
 use Rattle.pg_expr.specs.declared.operand.Operand.{Operand}
 use Rattle.pg_expr.specs.declared.operand.Operand.TheVariants.{Col, Lit}
 use Rattle.pg_expr.specs.Cond.{Cond, compare, is_null, is_not_null}
-use Rattle.pg_expr.specs.View as view
 use Rattle.catalog.specs.Contents.{Contents, index_at}
 use Rattle.catalog.specs.Indexes.{Index}
 use Rattle.eq_classes.specs.Clauses.{Set, ClassTable}
-use Rattle.index_match.specs.Numbered.{Numbered, local, has_number}
-use Rattle.pg_expr.specs.declared.expr.Expr.{Expr}
-use Rattle.pg_base.specs.Sets.{has}
-use Rattle.pg_base.specs.declared.numbers.RelNo.{RelNo}
-use Rattle.pg_base.specs.declared.rel_set.RelSet.{RelSet}
+use Rattle.index_match.specs.Numbered.{Numbered, local}
 
 -- a hash index: it serves equality alone, in no order
 abbrev pub is_hash : Method → Bool
@@ -62,10 +57,6 @@ has_key_form m r k _ = false
 abbrev pub is_condition : Index → ℕ → Cond → Bool
 is_condition d r e = list_any (λ k. has_key_form d.method r k e) d.keys
 
--- each of some expressions is on some key column of the index
-abbrev pub are_conditions : Index → ℕ → List Expr → Bool
-are_conditions d r es = list_all (λ e. is_condition d r (view.cond e)) es
-
 -- a hash index has the first one alone
 abbrev pub allowed : Method → List Numbered → List Numbered
 allowed Btree cs = cs
@@ -78,7 +69,3 @@ conditions_among d r cs = allowed d.method (filter (λ (c : Numbered). is_condit
 -- the conditions of an index, among the clauses of a relation and of its parameterisation
 abbrev pub index_conditions : Contents → ClassTable → IndexNo → ℕ → Set → List Numbered
 index_conditions c t i r p = conditions_among (index_at c i) r (local t r p)
-
--- a number is that of a condition of an index
-abbrev pub is_condition_of : Contents → ClassTable → IndexNo → RelNo → RelSet → ℕ → Bool
-is_condition_of c t i r p n = has_number (index_conditions c t i r.0 (has p.0)) n

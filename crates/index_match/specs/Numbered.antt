@@ -1,5 +1,5 @@
 -- Clauses of a table with their numbers, in the order of these. Own.
-use Rattle.std.specs.Prelude.{ℕ, Bool, not, ◌||◌, nat_eq, List, map, filter}
+use Rattle.std.specs.Prelude.{ℕ, Bool, ◌||◌, nat_eq, List, map, filter}
 use Rattle.std.specs.List.{list_any, enumerate_from}
 use Rattle.pg_expr.specs.Cond.{Cond}
 use Rattle.eq_classes.specs.Clauses.{Set, Clause, ClassTable}
@@ -29,10 +29,6 @@ has_number cs n = list_any (λ (c : Numbered). nat_eq n c.number) cs
 -- a condition is one of the chosen, by its number alone
 abbrev pub is_one_of_chosen : List Numbered → Numbered → Bool
 is_one_of_chosen chosen c = has_number chosen c.number
-
--- the conditions of a list that are not among the chosen
-abbrev pub others : List Numbered → List Numbered → List Numbered
-others chosen cs = filter (λ c. not (is_one_of_chosen chosen c)) cs
 
 -- numbered conditions without their numbers
 abbrev pub conditions_of : List Numbered → List Cond

@@ -2,14 +2,16 @@
 
 ghost use Rattle.std.specs.Prelude.{◌≡◌, ◌≤◌, ◌&&◌, ℕ, map, nat_lt, IfSome, is_some};
 ghost use Rattle.pg_base.specs.declared.limits.TheConstants.{MOST_ATOMS};
-ghost use Rattle.pg_expr.specs.AtomSets.{contains};
+ghost use Rattle.pg_expr.specs.work.AtomSets.{contains};
 ghost use Rattle.pg_expr.specs.Columns.{atom_count};
-ghost use Rattle.pg_expr.specs.View.{cond};
+ghost use Rattle.pg_expr.specs.work.View.{cond};
 ghost use Rattle.catalog.specs.Contents.{IsIndex, index_at};
-ghost use Rattle.catalog.specs.Entries.{index_of};
+ghost use Rattle.catalog.specs.work.Entries.{index_of};
 ghost use Rattle.index_match.specs.Arms as arms;
-ghost use Rattle.index_match.specs.Arms.{parts_matched, bounds_arm};
+ghost use Rattle.index_match.specs.work.Arms as arms_work;
+ghost use Rattle.index_match.specs.work.Arms.{parts_matched, bounds_arm};
 ghost use Rattle.index_match.specs.Conditions as forms;
+ghost use Rattle.index_match.specs.work.Conditions as forms_work;
 
 use crate::bounds::bounds;
 use crate::forms::is_condition;
@@ -45,7 +47,7 @@ fn takes_parts(m: Method, n: usize) -> bool
 
 /// Whether an index may use each part on some key column.
 fn are_conditions(def: &IndexDef, r: RelNo, parts: &[Expr]) -> bool
-    ensures { result ≡ forms.are_conditions (index_of def.now) r.0 parts.now }
+    ensures { result ≡ forms_work.are_conditions (index_of def.now) r.0 parts.now }
 {
     parts.iter().all(|part| is_condition(def, r, part))
 }

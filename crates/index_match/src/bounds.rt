@@ -3,10 +3,10 @@
 ghost use Rattle.std.specs.Prelude.{◌≡◌, ◌<◌, ◌≤◌, ◌||◌, ◌&&◌, ℕ, length, nat_eq, IfSome};
 ghost use Rattle.std.specs.List.{position_from};
 ghost use Rattle.std.specs.Option.{option_map};
-ghost use Rattle.pg_expr.specs.AtomSets.{contains};
-ghost use Rattle.pg_expr.specs.View.{cond};
-ghost use Rattle.index_match.specs.Slots as slots;
-ghost use Rattle.index_match.specs.Slots.{slots_of, is_key_slot, is_bound};
+ghost use Rattle.pg_expr.specs.work.AtomSets.{contains};
+ghost use Rattle.pg_expr.specs.work.View.{cond};
+ghost use Rattle.index_match.specs.work.Slots as slots;
+ghost use Rattle.index_match.specs.work.Slots.{slots_of, is_key_slot, is_bound};
 
 use crate::forms::{has_form, is_fixing};
 use crate::slots::Conditions;

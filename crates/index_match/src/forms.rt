@@ -2,10 +2,12 @@
 
 ghost use Rattle.std.specs.Prelude.{◌≡◌, true};
 ghost use Rattle.catalog.specs.opfamily_Answers.{takes};
-ghost use Rattle.pg_expr.specs.View.{cond};
-ghost use Rattle.catalog.specs.Entries.{index_of};
+ghost use Rattle.pg_expr.specs.work.View.{cond};
+ghost use Rattle.catalog.specs.work.Entries.{index_of};
 ghost use Rattle.index_match.specs.Bounds as bounds;
+ghost use Rattle.index_match.specs.work.Bounds as bounds_work;
 ghost use Rattle.index_match.specs.Conditions as forms;
+ghost use Rattle.index_match.specs.work.Conditions as forms_work;
 
 use catalog::IndexDef;
 use catalog::opfamily::{IndexKey, Method, strategy};

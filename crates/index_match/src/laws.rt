@@ -8,7 +8,8 @@ ghost use Rattle.eq_classes.specs.Listing.{clause_at};
 ghost use Rattle.eq_classes.specs.Parts.{is_base, is_param};
 ghost use Rattle.index_match.specs.Numbered.{Numbered, conditions_of, has_number, those};
 ghost use Rattle.index_match.specs.Conditions.{index_conditions};
-ghost use Rattle.index_match.specs.Bounds.{index_bounds, index_tests};
+ghost use Rattle.index_match.specs.Bounds.{index_bounds};
+ghost use Rattle.index_match.specs.work.Bounds.{index_tests};
 
 /// The conditions of the clauses that pass a test are those of the clause list that do, in its order.
 pub fn clauses_by_number()

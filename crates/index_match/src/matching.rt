@@ -2,11 +2,11 @@
 
 ghost use Rattle.std.specs.Prelude.{◌≡◌, ◌<◌, ◌≤◌, ℕ};
 ghost use Rattle.pg_base.specs.Sets.{has};
-ghost use Rattle.pg_expr.specs.AtomSets.{contains};
+ghost use Rattle.pg_expr.specs.work.AtomSets.{contains};
 ghost use Rattle.catalog.specs.Contents.{IsIndex};
-ghost use Rattle.index_match.specs.Bounds.{is_bound_of, is_test_of};
-ghost use Rattle.index_match.specs.Slots as slots;
-ghost use Rattle.index_match.specs.Slots.{AreLocal, is_number, is_found_at, numbered_by, conditions_for, is_left_over, is_bound, chosen_by};
+ghost use Rattle.index_match.specs.work.Bounds.{is_bound_of, is_test_of};
+ghost use Rattle.index_match.specs.work.Slots as slots;
+ghost use Rattle.index_match.specs.work.Slots.{AreLocal, is_number, is_found_at, numbered_by, conditions_for, is_left_over, is_bound, chosen_by};
 
 use crate::bounds::{bounds, note};
 use crate::forms::is_condition;

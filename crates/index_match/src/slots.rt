@@ -2,8 +2,8 @@
 
 ghost use Rattle.std.specs.Prelude.{◌≡◌, ◌<◌, ◌≤◌, length, slice_index_or, None};
 ghost use Rattle.std.specs.Option.{option_map};
-ghost use Rattle.pg_expr.specs.View.{cond};
-ghost use Rattle.index_match.specs.Slots.{chosen_slots, slots_of, slot_at};
+ghost use Rattle.pg_expr.specs.work.View.{cond};
+ghost use Rattle.index_match.specs.work.Slots.{chosen_slots, slots_of, slot_at};
 
 use eq_classes::{Classes, ClauseSet};
 use pg_expr::Expr;
@@ -41,7 +41,7 @@ impl<'a> Chosen<'a> {
 }
 
 impl<'a> ClauseList for Chosen<'a> {
-    ghost use Rattle.index_match.specs.Slots.{placed, chosen_slots};
+    ghost use Rattle.index_match.specs.work.Slots.{placed, chosen_slots};
 
     ghost conditions = { λ list. placed (chosen_slots list) };
 

@@ -2,9 +2,9 @@
 
 ghost use Rattle.std.specs.Prelude.{◌≡◌, ◌<◌, ◌≤◌, ◌↔◌, IsTrue, length, nat_eq, IfSome, Some, slice_get, drop, [], ◌++◌, ◌∷◌};
 ghost use Rattle.std.specs.List.{list_any};
-ghost use Rattle.pg_expr.specs.View.{cond};
+ghost use Rattle.pg_expr.specs.work.View.{cond};
 ghost use Rattle.catalog.specs.Contents.{IsIndex, index_at};
-ghost use Rattle.catalog.specs.Entries.{index_of};
+ghost use Rattle.catalog.specs.work.Entries.{index_of};
 ghost use Rattle.catalog.specs.Indexes.{columns_of};
 ghost use Rattle.index_match.specs.Usable.{IsUsable, holds_columns};
 

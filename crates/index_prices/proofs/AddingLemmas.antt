@@ -7,10 +7,11 @@ use Rattle.std.proofs.lemmas.Bool.{eq-eqb}
 use Rattle.pg_base.specs.declared.limits.TheConstants.{MOST_INDEXES}
 use Rattle.pg_base.specs.declared.numbers.TableNo.{TableNo}
 use Rattle.catalog.specs.Contents.{Contents, NamedIndex, indexes_of, numbers_from, table_names, with_index}
-use Rattle.catalog.specs.Tables.{Fits, IsAcceptableIndex, IsUnused}
+use Rattle.catalog.specs.Tables.{IsAcceptableIndex, IsUnused}
+use Rattle.catalog.specs.work.Tables.{Fits}
 use Rattle.catalog.proofs.NameLaws.{fresh}
 use Rattle.plan_laws.specs.Moved.{added_from, over}
-use Rattle.catalog.specs.Candidates.{AreCandidateIndexes, IsCandidateIndex, names_of}
+use Rattle.catalog.specs.work.Candidates.{AreCandidateIndexes, IsCandidateIndex, names_of}
 use Rattle.index_prices.specs.Candidates.{with_added}
 
 -- how many of some indexes are on a table

@@ -4,7 +4,7 @@ use Rattle.std.proofs.lemmas.List.{get_or-map, length-map}
 use Rattle.pg_base.specs.Names.{AreDistinct}
 use Rattle.pg_base.specs.declared.numbers.IndexNo.{IndexNo}
 use Rattle.catalog.specs.Contents.{Contents, NamedIndex, index_names, no_index}
-use Rattle.catalog.specs.Tables.{HasIndexName}
+use Rattle.catalog.specs.work.Tables.{HasIndexName}
 
 in-order : (m n : ℕ) → (m < n) ⊎ ((m ≡ n) ⊎ (n < m))
 in-order zero zero = inr (inl refl)

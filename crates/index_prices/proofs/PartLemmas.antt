@@ -2,17 +2,17 @@
 use Rattle.std.proofs.Common.{◌≡◌, ◌<◌, ◌+◌, ◌++◌, ◌⊎◌, ℕ, zero, suc, Bool, true, false, cond, List, [], ◌∷◌, length, map, get_or, inl, inr, refl, sym, ap, ◌∙◌, subst, arith, true≢false}
 use Rattle.std.specs.List.{items_where_true}
 use Rattle.pg_base.specs.Sets.{has}
-use Rattle.advisor.specs.Choices.{IsPart}
+use Rattle.advisor.specs.work.Choices.{IsPart}
 use Rattle.catalog.specs.Contents.{Contents, NamedIndex, no_index}
 use Rattle.sql_query.specs.Queries.{Query}
 use Rattle.plan_tree.specs.Costs.{price}
 use Rattle.plan_tree.specs.Least.{IsBestPlan, HasNoPlan}
 use Rattle.plan_tree.specs.Plans.{Plan}
-use Rattle.plan_laws.specs.Fewer.{HasRoom, KeepsRead}
+use Rattle.plan_laws.specs.work.Fewer.{HasRoom, KeepsRead}
 use Rattle.plan_laws.specs.Moved.{HasPrice, added_from, over}
 use Rattle.plan_laws.proofs.KeptPlanLemmas.{none-left, price-left}
 use Rattle.index_prices.specs.Candidates.{with_added}
-use Rattle.index_prices.specs.Quotes.{HasAllRead}
+use Rattle.index_prices.specs.work.Quotes.{HasAllRead}
 
 -- of the candidates of a set, which are of another one
 abbrev flags : ℕ → (ℕ → Bool) → (ℕ → Bool) → List NamedIndex → List Bool

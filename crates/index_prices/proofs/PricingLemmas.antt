@@ -3,17 +3,18 @@ use Rattle.std.proofs.Common.{◌≡◌, ℕ, All, sym, ◌∙◌, ap, subst, ar
 use Rattle.pg_base.specs.Sets.{has}
 use Rattle.catalog.specs.Contents.{Contents}
 use Rattle.catalog.specs.Range.{Range}
-use Rattle.cost_rules.specs.Costs.{capped_pair}
+use Rattle.cost_rules.specs.work.Costs.{capped_pair}
 use Rattle.cost_rules.specs.declared.pair.Pair.{Pair}
 use Rattle.eq_classes.specs.Clauses.{Clause, ClassTable}
-use Rattle.path_cost.specs.Columns.{IsOver}
+use Rattle.path_cost.specs.work.Columns.{IsOver}
 use Rattle.path_cost.specs.Estimates.{set_rows}
 use Rattle.sql_query.specs.Queries.{Query, all_of_query}
 use Rattle.sql_query.specs.WellBound.{IsWellBound}
 use Rattle.plan_laws.proofs.OverLemmas.{clauses_over}
-use Rattle.plan_tree.specs.Costs.{HaveRows, cost, query_rows}
+use Rattle.plan_tree.specs.Costs.{cost, query_rows}
+use Rattle.plan_tree.specs.work.Costs.{HaveRows}
 use Rattle.plan_tree.specs.Least.{IsAdmissible}
-use Rattle.plan_tree.specs.Paths.{IsFinishedPath, Path, kept_cost}
+use Rattle.plan_tree.specs.work.Paths.{IsFinishedPath, Path, kept_cost}
 use Rattle.plan_tree.proofs.BoundLemmas.{startup-most}
 use Rattle.plan_tree.proofs.WindowLemmas.{uncut-kept}
 

@@ -4,7 +4,7 @@ use Rattle.std.specs.Result.{IfOk}
 use Rattle.std.proofs.lemmas.Option.{slice_get-get_or}
 use Rattle.std.proofs.lemmas.Result.{IfOk-weaker}
 use Rattle.pg_base.specs.Sets.{has}
-use Rattle.advisor.specs.Memos.{IsQuote}
+use Rattle.advisor.specs.work.Memos.{IsQuote}
 use Rattle.advisor.specs.declared.pricer.Quote.{Quote}
 use Rattle.catalog.specs.Contents.{Contents, NamedIndex}
 use Rattle.sql_query.specs.Queries.{Query}
@@ -13,7 +13,7 @@ use Rattle.plan_laws.specs.Moved.{added_from}
 use Rattle.plan_laws.proofs.BoundLemmas.{bound-over}
 use Rattle.index_prices.specs.Candidates.{with_added}
 use Rattle.index_prices.specs.Prices.{prices_of}
-use Rattle.index_prices.specs.Quotes.{IsQuoteOver}
+use Rattle.index_prices.specs.work.Quotes.{IsQuoteOver}
 
 module _ (c : Contents) (xs : List NamedIndex) (qs : List Query) (q s : ℕ) (m : Contents) (x : Query) (lt : q < length qs) (made : m ≡ with_added c xs (has s)) where
   -- each is well bound there

@@ -1,17 +1,17 @@
 -- A price, and the candidates with which alone it is the same.
 use Rattle.std.proofs.Common.{◌≡◌, ℕ, Bool, true, false, List, length, Option, Some, None, refl, sym, ap, ◌∙◌, subst, true≢false}
 use Rattle.pg_base.specs.Sets.{has}
-use Rattle.advisor.specs.Choices.{IsPart}
+use Rattle.advisor.specs.work.Choices.{IsPart}
 use Rattle.catalog.specs.Contents.{Contents, NamedIndex}
 use Rattle.sql_query.specs.Queries.{Query}
 use Rattle.plan_tree.specs.Costs.{price}
 use Rattle.plan_tree.specs.Least.{IsBestPlan, HasNoPlan}
 use Rattle.plan_tree.specs.Plans.{Plan}
-use Rattle.plan_laws.specs.Fewer.{HasRoom}
+use Rattle.plan_laws.specs.work.Fewer.{HasRoom}
 use Rattle.plan_laws.specs.Moved.{HasPrice}
 use Rattle.index_prices.specs.Candidates.{with_added}
 use Rattle.index_prices.specs.Prices.{IsLeastPrice}
-use Rattle.index_prices.specs.Quotes.{HasAllRead, IsQuoteOver}
+use Rattle.index_prices.specs.work.Quotes.{HasAllRead, IsQuoteOver}
 use Rattle.index_prices.proofs.PartLemmas.{none-between, price-between}
 
 module _ (m : Contents) (candidates : List NamedIndex) (q : Query) (set : ℕ) where

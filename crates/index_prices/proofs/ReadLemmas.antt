@@ -5,8 +5,8 @@ use Rattle.std.proofs.Math.Pow.{pow_mono}
 use Rattle.std.proofs.lemmas.List.{length-drop}
 use Rattle.catalog.specs.Contents.{NamedIndex}
 use Rattle.sql_query.specs.Queries.{Query}
-use Rattle.plan_laws.specs.Moved.{is_read}
-use Rattle.index_prices.specs.Prices.{read_by}
+use Rattle.plan_laws.specs.work.Moved.{is_read}
+use Rattle.index_prices.specs.work.Prices.{read_by}
 
 bit-most : (b : Bool) → cond b 1 0 ≤ 1
 bit-most true = omega arith

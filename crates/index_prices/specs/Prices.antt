@@ -1,10 +1,10 @@
 -- What queries cost where candidate indexes are added to a catalogue. Own.
-use Rattle.std.specs.Prelude.{◌≡◌, ℕ, ◌+◌, ◌*◌, cond, List, [], ◌∷◌, Option, Some, None, slice_get}
+use Rattle.std.specs.Prelude.{◌≡◌, ℕ, List, Option, Some, None, slice_get}
 use Rattle.pg_base.specs.Sets.{has}
 use Rattle.catalog.specs.Contents.{Contents, NamedIndex}
 use Rattle.sql_query.specs.Queries.{Query}
 use Rattle.advisor.specs.Choices.{Prices}
-use Rattle.plan_laws.specs.Moved.{HasPrice, is_read}
+use Rattle.plan_laws.specs.Moved.{HasPrice}
 use Rattle.index_prices.specs.Candidates.{with_added}
 use Rattle.plan_tree.specs.Least.{HasNoPlan}
 
@@ -22,13 +22,3 @@ pub record IsPriceWith (c : Contents) (candidates : List NamedIndex) (queries : 
 -- what each query costs with each set of candidates
 abbrev pub prices_of : Contents → List NamedIndex → List Query → Prices
 prices_of c candidates queries = λ q set price. IsPriceWith c candidates queries q set price
-
--- the candidates on a query's tables, as a number whose bit j stands for candidate j
-abbrev pub read_by : Query → List NamedIndex → ℕ
-read_by q [] = 0
-read_by q (x ∷ xs) = cond (is_read q x) 1 0 + 2 * read_by q xs
-
--- of no query there are none
-abbrev pub concerns_of : Option Query → List NamedIndex → ℕ
-concerns_of None candidates = 0
-concerns_of (Some q) candidates = read_by q candidates

@@ -4,8 +4,9 @@ ghost use Rattle.std.specs.Prelude.{◌≡◌, ◌<◌, IfOk, OnOk};
 ghost use Rattle.pg_base.specs.Sets.{has};
 ghost use Rattle.pg_base.specs.Names.{IsName};
 ghost use Rattle.catalog.specs.Contents.{with_index};
-ghost use Rattle.catalog.specs.Tables.{Fits, IsAcceptableIndex};
-ghost use Rattle.catalog.specs.Candidates.{AreCandidateIndexes};
+ghost use Rattle.catalog.specs.Tables.{IsAcceptableIndex};
+ghost use Rattle.catalog.specs.work.Tables.{Fits};
+ghost use Rattle.catalog.specs.work.Candidates.{AreCandidateIndexes};
 ghost use Rattle.index_prices.specs.Candidates.{with_added};
 
 use catalog::{Candidate, Catalog, CatalogFault};

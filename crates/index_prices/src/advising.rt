@@ -2,8 +2,8 @@
 
 ghost use Rattle.std.specs.Prelude.{◌≤◌, length, All, IfOk, MatchOption};
 ghost use Rattle.sql_query.specs.WellBound.{IsWellBound};
-ghost use Rattle.advisor.specs.Advices.{priced};
-ghost use Rattle.catalog.specs.Candidates.{AreCandidateIndexes};
+ghost use Rattle.advisor.specs.work.Advices.{priced};
+ghost use Rattle.catalog.specs.work.Candidates.{AreCandidateIndexes};
 ghost use Rattle.index_prices.specs.Replies.{IsAdviceFor, IsReplyTo, HasNoAdviceFor};
 
 use crate::pricer::PlanPricer;

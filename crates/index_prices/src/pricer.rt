@@ -1,8 +1,8 @@
 //! What queries cost with candidate indexes, by plans.
 
 ghost use Rattle.std.specs.Prelude.{◌≡◌, ◌≤◌, length};
-ghost use Rattle.plan_laws.specs.Moved.{is_read};
-ghost use Rattle.index_prices.specs.Prices.{read_by};
+ghost use Rattle.plan_laws.specs.work.Moved.{is_read};
+ghost use Rattle.index_prices.specs.work.Prices.{read_by};
 
 use crate::adding::with_added;
 use crate::pricing::least_quote;
@@ -24,8 +24,8 @@ pub(crate) struct PlanPricer<'a> {
 
 impl<'a> Model for PlanPricer<'a> {
     ghost use Rattle.std.specs.Coded.{codes};
-    ghost use Rattle.pg_expr.specs.CondCode.{cond_code};
-    ghost use Rattle.index_prices.specs.Proposals.{IsProposal, Proposal};
+    ghost use Rattle.pg_expr.specs.work.CondCode.{cond_code};
+    ghost use Rattle.index_prices.specs.work.Proposals.{IsProposal, Proposal};
 
     ghost Value = { Proposal };
 
@@ -58,8 +58,9 @@ fn read_of(q: &Prepared, candidates: &[Candidate]) -> u16
 
 impl<'a> Pricer for PlanPricer<'a> {
     ghost use Rattle.std.specs.Prelude.{◌≡◌, ◌<◌, length, slice_get};
-    ghost use Rattle.index_prices.specs.Prices.{concerns_of, prices_of};
-    ghost use Rattle.index_prices.specs.PriceLaws.{one-price-with, price-within};
+    ghost use Rattle.index_prices.specs.Prices.{prices_of};
+    ghost use Rattle.index_prices.specs.work.Prices.{concerns_of};
+    ghost use Rattle.index_prices.specs.work.PriceLaws.{one-price-with, price-within};
 
     ghost count = { λ p. length p.queries };
 

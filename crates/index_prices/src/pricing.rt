@@ -1,16 +1,17 @@
 //! The least price of a query, and the candidates with which alone it is the same.
 
 ghost use Rattle.std.specs.Prelude.{◌≡◌, ◌<◌, ◌≤◌, length, IfOk, IfSome};
-ghost use Rattle.advisor.specs.Memos.{IsBelow};
+ghost use Rattle.advisor.specs.work.Memos.{IsBelow};
 ghost use Rattle.cost_rules.specs.declared.parameters.TheConstants.{MOST_COST};
 ghost use Rattle.sql_query.specs.WellBound.{IsWellBound};
 ghost use Rattle.plan_tree.specs.Costs as costs;
+ghost use Rattle.plan_tree.specs.work.Costs as costs_work;
 ghost use Rattle.plan_tree.specs.Least.{IsAdmissible, IsBestPlan};
-ghost use Rattle.plan_tree.specs.Paths.{IsFinishedPath};
-ghost use Rattle.plan_tree.specs.Views.{path};
-ghost use Rattle.plan_laws.specs.Fewer.{HasRoom};
+ghost use Rattle.plan_tree.specs.work.Paths.{IsFinishedPath};
+ghost use Rattle.plan_tree.specs.work.Views.{path};
+ghost use Rattle.plan_laws.specs.work.Fewer.{HasRoom};
 ghost use Rattle.index_prices.specs.Prices.{IsLeastPrice};
-ghost use Rattle.index_prices.specs.Quotes.{IsQuoteOver};
+ghost use Rattle.index_prices.specs.work.Quotes.{IsQuoteOver};
 
 use crate::reading::candidates_read;
 use crate::room::has_room;

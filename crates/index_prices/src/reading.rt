@@ -4,11 +4,11 @@ ghost use Rattle.std.specs.Prelude.{◌≡◌, ◌<◌, ◌≤◌, ◌⊎◌, �
 ghost use Rattle.std.specs.List.{list_any};
 ghost use Rattle.pg_base.specs.Sets.{has};
 ghost use Rattle.pg_base.specs.declared.numbers.IndexNo.{IndexNo};
-ghost use Rattle.advisor.specs.Choices.{IsPart};
-ghost use Rattle.catalog.specs.Tables.{HasIndexName};
-ghost use Rattle.plan_tree.specs.Views.{bits, bits_all, plan};
-ghost use Rattle.plan_laws.specs.Fewer.{reads, some_reads, tree_reads};
-ghost use Rattle.index_prices.specs.Quotes.{HasAllRead};
+ghost use Rattle.advisor.specs.work.Choices.{IsPart};
+ghost use Rattle.catalog.specs.work.Tables.{HasIndexName};
+ghost use Rattle.plan_tree.specs.work.Views.{bits, bits_all, plan};
+ghost use Rattle.plan_laws.specs.work.Fewer.{reads, some_reads, tree_reads};
+ghost use Rattle.index_prices.specs.work.Quotes.{HasAllRead};
 
 use crate::adding::has_number;
 use catalog::{Candidate, Catalog};

@@ -4,7 +4,7 @@ ghost use Rattle.std.specs.Prelude.{◌≡◌, ◌<◌, ◌≤◌, ℕ, IsTrue, 
 ghost use Rattle.eq_classes.specs.Listing.{clause_at};
 ghost use Rattle.sql_query.specs.WellBound.{IsWellBound};
 ghost use Rattle.plan_tree.specs.Bitmaps.{is_or};
-ghost use Rattle.plan_laws.specs.Fewer.{HasRoom, or_clauses};
+ghost use Rattle.plan_laws.specs.work.Fewer.{HasRoom, or_clauses};
 
 use catalog::Catalog;
 use plan_tree::{MOST_ELEMENTS, classes_of, or_arms, range_of};

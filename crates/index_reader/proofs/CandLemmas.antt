@@ -11,18 +11,19 @@ use Rattle.sql_grammar.specs.Reading.{terminal_of}
 use Rattle.sql_grammar.specs.Terminals.{t_key, t_mark, t_name}
 use Rattle.sql_grammar.specs.Syntax.{Ending, Cand, cand_on, CreateIndex, index_on, create_index}
 use Rattle.sql_grammar.specs.Words.{words_of_cand, words_of_ending, words_of_include, words_of_index, words_of_key, words_of_keys, words_of_using, words_of_where}
-use Rattle.sql_grammar.specs.Faults.{AreWithinLimits, EndsAt, IsCand, terminals}
+use Rattle.sql_grammar.specs.Faults.{AreWithinLimits, terminals}
+use Rattle.sql_grammar.specs.work.Faults.{EndsAt, IsCand}
 use Rattle.sql_grammar.specs.Spelled.{IsSpelled}
 use Rattle.sql_grammar.proofs.ExprTrees.{tokens-are}
 use Rattle.sql_grammar.proofs.IndexComplete.{cand-words}
 use Rattle.catalog.specs.Contents.{Contents}
-use Rattle.expr_reader.specs.Reads.{Reads}
+use Rattle.expr_reader.specs.work.Reads.{Reads}
 use Rattle.query_reader.proofs.ReadingLemmas.{some-token}
 use Rattle.query_reader.proofs.PlaceLemmas.{front-of, one-end, slice-is}
-use Rattle.index_reader.specs.Candidates.{cand_of, HaveCand, IsCandAt}
+use Rattle.index_reader.specs.work.Candidates.{cand_of, HaveCand, IsCandAt}
 use Rattle.index_reader.specs.declared.index.ReadIndex.{ReadIndex}
 use Rattle.index_reader.specs.Meaning.{IndexMeant, meaning_of_index, meaning_of_cand}
-use Rattle.index_reader.specs.Reads.{index_meant}
+use Rattle.index_reader.specs.work.Reads.{index_meant}
 
 -- its words, with its end, and its first word
 pub record Behind (y : CreateIndex) (text : List ℕ) (tokens : List Token) : Type 0 where

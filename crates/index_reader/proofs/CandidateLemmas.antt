@@ -14,19 +14,20 @@ use Rattle.sql_lex.specs.declared.tokens.Token.{Token}
 use Rattle.sql_grammar.specs.declared.class.Symbol.TheVariants.{Close, Comma}
 use Rattle.sql_grammar.specs.Syntax.{Mark, Cand, cand_on}
 use Rattle.sql_grammar.specs.Terminals.{Terminal, t_mark}
-use Rattle.sql_grammar.specs.Unique.{ends_cand, token_in}
+use Rattle.sql_grammar.specs.work.Unique.{ends_cand, token_in}
 use Rattle.sql_grammar.specs.Words.{words_of_cand, words_of_cands, levels_of_cand, levels_of_cands}
 use Rattle.sql_grammar.specs.Faults.{AreWithinLimits, fault_at, terminals}
 use Rattle.sql_grammar.proofs.ExprTrees.{tokens-are}
-use Rattle.expr_reader.specs.Reading.{Begins, BeginsNot}
+use Rattle.expr_reader.specs.work.Reading.{Begins, BeginsNot}
 use Rattle.catalog.specs.Contents.{Contents, NamedIndex, all_names, index_names, table_names}
 use Rattle.catalog.specs.Indexes.{IsFirstTwice, columns_of}
-use Rattle.catalog.specs.Tables.{Fits}
+use Rattle.catalog.specs.work.Tables.{Fits}
 use Rattle.catalog.proofs.NameLaws.{distinct-push, not_among}
-use Rattle.catalog.specs.Candidates.{IsCandidateIndex, names_of, with_candidates}
-use Rattle.index_reader.specs.Candidates.{IsCandAt}
+use Rattle.catalog.specs.Candidates.{with_candidates}
+use Rattle.catalog.specs.work.Candidates.{IsCandidateIndex, names_of}
+use Rattle.index_reader.specs.work.Candidates.{IsCandAt}
 use Rattle.index_reader.specs.Meaning.{IndexMeant, meaning_of_cand}
-use Rattle.index_reader.specs.Statements.{IsCandRefusal}
+use Rattle.index_reader.specs.work.Statements.{IsCandRefusal}
 use Rattle.index_reader.specs.declared.candidates.AllRead.{AllRead}
 use Rattle.index_reader.specs.declared.candidates.OneRead.{OneRead}
 use Rattle.index_reader.specs.AdviseCandidates.{CandidateMeans, IsAllowed, IsNotAllowed, repeated, candidate_read}
@@ -34,7 +35,7 @@ use Rattle.index_reader.specs.Places.{word_fault}
 use Rattle.index_reader.specs.AdviseMeaning.{CandidatesMean}
 use Rattle.index_reader.specs.Parts.{candidates_of, name_token}
 use Rattle.index_reader.specs.Stages.{AreRead}
-use Rattle.index_reader.specs.Walk.{AreApart, Row, RowAt, Stands, TellsCandidate, TellsCandidates}
+use Rattle.index_reader.specs.work.Walk.{AreApart, Row, RowAt, Stands, TellsCandidate, TellsCandidates}
 use Rattle.index_reader.proofs.NameLemmas.{by-candidate, by-index, by-table}
 use Rattle.index_reader.proofs.StandLemmas.{behind, front, stands-within}
 use Rattle.query_reader.proofs.ReadingLemmas.{some-token}

@@ -5,15 +5,15 @@ use Rattle.pg_base.specs.declared.faults.Refusal.{Refusal}
 use Rattle.pg_expr.specs.declared.expr.Expr.{Expr as ExprRead}
 use Rattle.pg_expr.specs.Cond.{Cond}
 use Rattle.pg_expr.specs.Pushed.{pushed}
-use Rattle.pg_expr.specs.View.{cond}
+use Rattle.pg_expr.specs.work.View.{cond}
 use Rattle.sql_grammar.specs.Terminals.{Terminal, t_key}
 use Rattle.sql_grammar.specs.declared.class.Word.TheVariants.{Where as WhereKey}
 use Rattle.sql_grammar.specs.Syntax.{Expr, Where, no_where, where_expr}
-use Rattle.sql_grammar.specs.Unique.{ends_expr}
+use Rattle.sql_grammar.specs.work.Unique.{ends_expr}
 use Rattle.sql_grammar.specs.Words.{words_of_expr, words_of_where}
-use Rattle.expr_reader.specs.Reading.{BeginsNot}
+use Rattle.expr_reader.specs.work.Reading.{BeginsNot}
 use Rattle.expr_reader.specs.Conditions.{meaning_of_expr}
-use Rattle.expr_reader.specs.Reads.{Reads}
+use Rattle.expr_reader.specs.work.Reads.{Reads}
 use Rattle.expr_reader.proofs.ReadsLemmas.{read-ok, read-refused, was-read}
 use Rattle.query_reader.proofs.WhereLemmas.{There}
 use Rattle.index_reader.specs.Visible.{Sight, visible_in, sight_type}

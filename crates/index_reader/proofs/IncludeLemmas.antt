@@ -8,13 +8,13 @@ use Rattle.sql_grammar.specs.declared.class.Symbol.TheVariants.{Close}
 use Rattle.sql_grammar.specs.Terminals.{Terminal, Ident, free, t_mark, t_name}
 use Rattle.sql_grammar.specs.Syntax.{Mark, Include, no_include, include_columns}
 use Rattle.sql_grammar.specs.Words.{words_of_include, words_of_names}
-use Rattle.expr_reader.specs.Reading.{BeginsNot}
+use Rattle.expr_reader.specs.work.Reading.{BeginsNot}
 use Rattle.catalog.specs.Contents.{Contents}
-use Rattle.expr_reader.specs.Reads.{Reads}
+use Rattle.expr_reader.specs.work.Reads.{Reads}
 use Rattle.expr_reader.specs.Lists.{bound_each}
 use Rattle.index_reader.specs.declared.names.NamedColumn.{NamedColumn}
 use Rattle.index_reader.specs.Keys.{name_bound, include_names}
-use Rattle.index_reader.specs.Reads.{ends_include, words_of_names_left}
+use Rattle.index_reader.specs.work.Reads.{ends_include, words_of_names_left}
 
 pub no-include : (cat : Contents) (t : TableNo) (c : Include) (rest old new : List Terminal) (v : Vec NamedColumn Global) → v.items ≡ [] → new ≡ old → BeginsNot (λ token. t_name (free IncludeWord token)) old → old ≡ words_of_include c ++ rest →
     Reads (λ (v : Vec NamedColumn Global). v.items) (bound_each (name_bound cat t) (include_names c)) rest (Ok v) new

@@ -14,13 +14,15 @@ use Rattle.sql_grammar.specs.declared.class.Word.TheVariants.{On}
 use Rattle.sql_grammar.specs.Terminals.{Terminal, Ident, t_key, t_mark, t_name}
 use Rattle.sql_grammar.specs.Syntax.{Key, Mark, Where, no_where, where_expr, semicolon, text_end, KeyTree, Using, Include, Cand, cand_on, CreateIndex, index_on, Statement, empty, create_table, create_index, query, copy, sizes, column_statistics, analyze, no_explain, explain, explain_table, ordered_select, select_from, advise, advise_of, check, use_plan, unexplained, explained, grouped}
 use Rattle.sql_grammar.specs.Words.{words_of, words_of_where, words_of_using, words_of_include, words_of_key, words_of_keys, words_of_cand}
-use Rattle.sql_grammar.specs.Faults.{fault_at, terminals, IsWhole}
+use Rattle.sql_grammar.specs.Faults.{fault_at, terminals}
+use Rattle.sql_grammar.specs.work.Faults.{IsWhole}
 use Rattle.sql_grammar.specs.Spelled.{IsSpelled}
 use Rattle.expr_reader.specs.declared.cursor.Spelled.{Spelled}
-use Rattle.expr_reader.specs.Reading.{BeginsName, spelled}
+use Rattle.expr_reader.specs.Reading.{spelled}
+use Rattle.expr_reader.specs.work.Reading.{BeginsName}
 use Rattle.catalog.specs.Contents.{Contents}
 use Rattle.catalog.specs.Tables.{table_named}
-use Rattle.expr_reader.specs.Reads.{Reads}
+use Rattle.expr_reader.specs.work.Reads.{Reads}
 use Rattle.expr_reader.proofs.ReadsLemmas.{was-read}
 use Rattle.expr_reader.specs.Lists.{bound_each}
 use Rattle.ddl_reader.specs.Statistics.{known, table_of_name}
@@ -31,9 +33,9 @@ use Rattle.index_reader.specs.declared.names.NamedColumn.{NamedColumn}
 use Rattle.index_reader.specs.declared.methods.MethodRead.{MethodRead}
 use Rattle.index_reader.specs.Keys.{method_bound, key_bound, all_key_trees, name_bound, include_names}
 use Rattle.index_reader.specs.Meaning.{IndexMeant, condition_bound, name_tokens, limited_names, has_many_atoms, index_reading, within_limits, meaning_of_index, meaning_of_cand}
-use Rattle.index_reader.specs.Reads.{ends_include, words_of_keys_left, index_meant}
-use Rattle.index_reader.specs.Statements.{IsCandRefusal, IsIndexMeaning, IsCreateRefusal}
-use Rattle.ddl_reader.specs.Statements.{begins_index}
+use Rattle.index_reader.specs.work.Reads.{ends_include, words_of_keys_left, index_meant}
+use Rattle.index_reader.specs.work.Statements.{IsCandRefusal, IsIndexMeaning, IsCreateRefusal}
+use Rattle.ddl_reader.specs.work.Statements.{begins_index}
 use Rattle.expr_reader.proofs.StepLemmas.{step, stop}
 use Rattle.index_reader.proofs.VisibleLemmas.{sight}
 

@@ -18,13 +18,14 @@ use Rattle.expr_reader.specs.Reading.{spelled}
 use Rattle.catalog.specs.Contents.{Contents, table_at}
 use Rattle.catalog.specs.Indexes.{type_at}
 use Rattle.catalog.specs.Tables.{column_named}
-use Rattle.expr_reader.specs.Reads.{Reads}
+use Rattle.expr_reader.specs.work.Reads.{Reads}
 use Rattle.expr_reader.proofs.ReadsLemmas.{read-memory}
 use Rattle.ddl_reader.specs.Statistics.{known, column_of_name}
 use Rattle.index_reader.specs.declared.keys.KeyRead.{KeyRead}
 use Rattle.index_reader.specs.Keys.{class_bound, key_bound}
-use Rattle.expr_reader.specs.Sorts.{is_descending, has_nulls_first, ends_direction, ends_nulls_end}
-use Rattle.index_reader.specs.Reads.{begins_class, ends_key}
+use Rattle.expr_reader.specs.Sorts.{is_descending, has_nulls_first}
+use Rattle.expr_reader.specs.work.Sorts.{ends_direction, ends_nulls_end}
+use Rattle.index_reader.specs.work.Reads.{begins_class, ends_key}
 use Rattle.expr_reader.proofs.StepLemmas.{step, stop}
 
 -- memory ran out

@@ -8,12 +8,12 @@ use Rattle.sql_grammar.specs.Terminals.{Terminal, Ident, t_mark, t_name}
 use Rattle.sql_grammar.specs.Syntax.{Mark, Direction, NullsEnd, ClassTree, KeyTree, index_key}
 use Rattle.sql_grammar.specs.Words.{words_of_key, words_of_keys, words_of_names}
 use Rattle.catalog.specs.Contents.{Contents}
-use Rattle.expr_reader.specs.Reads.{Reads}
+use Rattle.expr_reader.specs.work.Reads.{Reads}
 use Rattle.ddl_reader.proofs.ListLemmas.{Parts}
 use Rattle.index_reader.specs.declared.keys.KeyRead.{KeyRead}
 use Rattle.index_reader.specs.declared.names.NamedColumn.{NamedColumn}
 use Rattle.index_reader.specs.Keys.{key_bound, name_bound}
-use Rattle.index_reader.specs.Reads.{ends_key}
+use Rattle.index_reader.specs.work.Reads.{ends_key}
 
 abbrev pub key_parts : Contents → TableNo → Method → Parts KeyTree KeyTree KeyRead
 key_parts cat t m = record { part = λ k. k; bind = key_bound cat t m; words = words_of_key; further = words_of_keys; none = refl; some = λ m x xs. refl }

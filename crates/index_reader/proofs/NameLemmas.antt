@@ -9,9 +9,10 @@ use Rattle.std.proofs.lemmas.Slice.Eq.{bytes_eq-Decides}
 use Rattle.pg_base.specs.declared.numbers.IndexNo.{IndexNo}
 use Rattle.pg_base.specs.declared.numbers.TableNo.{TableNo}
 use Rattle.catalog.specs.Contents.{Contents, NamedIndex, all_names, index_names, table_names}
-use Rattle.catalog.specs.Tables.{HasIndexName, HasTableName, IsFree, IsFreeIndex}
+use Rattle.catalog.specs.work.Tables.{HasIndexName, HasTableName, IsFree, IsFreeIndex}
 use Rattle.catalog.proofs.NamedLemmas.{free, some-index, taken, taken-index}
-use Rattle.catalog.specs.Candidates.{names_of, with_candidates}
+use Rattle.catalog.specs.Candidates.{with_candidates}
+use Rattle.catalog.specs.work.Candidates.{names_of}
 
 or-true : (b : Bool) → b || true ≡ true
 or-true true = refl

@@ -14,24 +14,24 @@ use Rattle.sql_lex.specs.declared.tokens.Token.{Token}
 use Rattle.sql_grammar.specs.declared.class.Symbol.TheVariants.{Close, Open}
 use Rattle.sql_grammar.specs.Syntax.{Mark, WindowedSelect, Advised, advised, Ending, semicolon, text_end}
 use Rattle.sql_grammar.specs.Terminals.{Terminal, t_mark, t_semicolon, t_end}
-use Rattle.sql_grammar.specs.Unique.{token_in}
+use Rattle.sql_grammar.specs.work.Unique.{token_in}
 use Rattle.sql_grammar.specs.Words.{words_of_windowed, words_of_advised, words_of_more_advised, words_of_ending, levels_of_windowed, levels_of_advised, levels_of_more_advised}
 use Rattle.sql_grammar.specs.Faults.{AreWithinLimits, fault_at, terminals}
 use Rattle.sql_grammar.proofs.ExprTrees.{tokens-are}
-use Rattle.expr_reader.specs.Reading.{Begins, BeginsNot}
+use Rattle.expr_reader.specs.work.Reading.{Begins, BeginsNot}
 use Rattle.catalog.specs.Contents.{Contents}
 use Rattle.eq_classes.specs.Holding.{IsClassTable}
 use Rattle.sql_query.specs.Queries.{Query}
 use Rattle.sql_query.specs.WellBound.{IsWellBound, given_of}
 use Rattle.query_reader.specs.Binding.{Bound, bound_part}
-use Rattle.query_reader.specs.Parts.{IsPartAt}
-use Rattle.query_reader.specs.Select.{IsBoundAs}
+use Rattle.query_reader.specs.work.Parts.{IsPartAt}
+use Rattle.query_reader.specs.work.Select.{IsBoundAs}
 use Rattle.index_reader.specs.declared.queries.OneQuery.{OneQuery}
 use Rattle.index_reader.specs.AdviseMeaning.{QueriesMean}
 use Rattle.index_reader.specs.Parts.{open_token, select_in}
 use Rattle.index_reader.specs.Queries.{IsQueryOf, QueryMeans, query_bound}
 use Rattle.index_reader.specs.Stages.{AreRead}
-use Rattle.index_reader.specs.Walk.{ArePlannable, QueryRow, QueryRowAt, Stands, TellsQueries, TellsQuery}
+use Rattle.index_reader.specs.work.Walk.{ArePlannable, QueryRow, QueryRowAt, Stands, TellsQueries, TellsQuery}
 use Rattle.index_reader.proofs.StandLemmas.{behind, ends-within, front, stands-within}
 use Rattle.query_reader.proofs.ReadingLemmas.{some-token}
 

@@ -17,10 +17,10 @@ use Rattle.index_reader.specs.AdviseCandidates.{with_room}
 use Rattle.index_reader.specs.AdviseMeaning.{CandidatesMean, QueriesMean, most_meant}
 use Rattle.index_reader.specs.Parts.{candidates_of, name_token}
 use Rattle.index_reader.specs.Queries.{QueryMeans}
-use Rattle.index_reader.specs.AdviseSoundness.{IsSound}
+use Rattle.index_reader.specs.work.AdviseSoundness.{IsSound}
 use Rattle.index_reader.specs.Stages.{AreRead}
-use Rattle.index_reader.specs.AdviseStatements.{IsAdviseMeaning, IsAdviseRefusal, PartsStand, TellsParts, advice_asked}
-use Rattle.index_reader.specs.Walk.{AreApart, ArePlannable, HaveRoom, QueryRow, Row, TellsCandidates, TellsQueries}
+use Rattle.index_reader.specs.work.AdviseStatements.{IsAdviseMeaning, IsAdviseRefusal, PartsStand, TellsParts, advice_asked}
+use Rattle.index_reader.specs.work.Walk.{AreApart, ArePlannable, HaveRoom, QueryRow, Row, TellsCandidates, TellsQueries}
 use Rattle.index_reader.proofs.StandLemmas.{ends-within}
 use Rattle.query_reader.proofs.ReadingLemmas.{some-token}
 use Rattle.index_reader.proofs.StatementLemmas.{Advises, InTurn, Told, told}

@@ -14,7 +14,7 @@ use Rattle.catalog.specs.Contents.{Contents, NamedIndex, indexes_of, numbers_fro
 use Rattle.catalog.proofs.NumberLemmas.{numbers-other, numbers-same}
 use Rattle.catalog.specs.Candidates.{with_candidates}
 use Rattle.index_reader.specs.AdviseCandidates.{with_room}
-use Rattle.index_reader.specs.Walk.{HaveRoom}
+use Rattle.index_reader.specs.work.Walk.{HaveRoom}
 
 -- how many indexes a table has with one more
 one-more : (c : Contents) (xs : List NamedIndex) (x : NamedIndex) (t : TableNo) → with_candidates c (xs ++ x ∷ []) ≡ record { tables = c.tables; indexes = (c.indexes ++ xs) ++ x ∷ [] }

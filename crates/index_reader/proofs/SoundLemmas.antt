@@ -52,10 +52,10 @@ use Rattle.index_reader.specs.Visible.{Sight, visible_in, sight_type}
 use Rattle.expr_reader.specs.Sorts.{is_descending, has_nulls_first}
 use Rattle.index_reader.specs.Keys.{method_of_name, method_bound, class_has_method, class_known, given, class_bound, key_bound, all_key_trees, name_bound, include_names}
 use Rattle.index_reader.specs.Meaning.{IndexMeant, condition_bound, name_tokens, limited_names, has_many_atoms, index_reading, meaning_of_cand}
-use Rattle.index_reader.specs.Reads.{index_meant}
+use Rattle.index_reader.specs.work.Reads.{index_meant}
 use Rattle.index_reader.proofs.VisibleLemmas.{all-map, is_first_column, visible-columns}
-use Rattle.index_reader.specs.Soundness.{IsSound}
-use Rattle.index_reader.specs.Candidates.{IsCandAt}
+use Rattle.index_reader.specs.work.Soundness.{IsSound}
+use Rattle.index_reader.specs.work.Candidates.{IsCandAt}
 
 known-some : {A : Type 0} (code : Code) (token : Token) (o : Option A) (a : A) → known code token o ≡ Ok a → o ≡ Some a
 known-some code token None a is = absurd (cc (is))

@@ -9,7 +9,7 @@ use Rattle.sql_grammar.specs.Reading.{terminal_of}
 use Rattle.sql_grammar.specs.Terminals.{Terminal}
 use Rattle.sql_grammar.specs.Faults.{AreWithinLimits, limit_of, terminals}
 use Rattle.sql_grammar.proofs.StatementWords.{words-are-tokens}
-use Rattle.index_reader.specs.Walk.{Stands}
+use Rattle.index_reader.specs.work.Walk.{Stands}
 
 module _ (text : List ℕ) (tokens : List Token) (first : ℕ) where
   -- as many tokens are left as words

@@ -9,19 +9,20 @@ use Rattle.sql_grammar.specs.Reading.{terminal_of}
 use Rattle.sql_grammar.specs.Terminals.{Said, Terminal, free, t_mark, t_name}
 use Rattle.sql_grammar.specs.Syntax.{select_from, semicolon, text_end, no_explain, explain, explain_table, ordered_select, index_on, Advise, advise_of, Statement, empty, create_table, create_index, query, copy, sizes, column_statistics, analyze, advise, check, use_plan, unexplained, explained, grouped}
 use Rattle.sql_grammar.specs.Words.{words_of, words_of_advise, words_of_advised, words_of_more_advised, words_of_ending}
-use Rattle.sql_grammar.specs.Faults.{IsWhole, terminals}
+use Rattle.sql_grammar.specs.Faults.{terminals}
+use Rattle.sql_grammar.specs.work.Faults.{IsWhole}
 use Rattle.sql_grammar.specs.Spelled.{IsSpelled}
-use Rattle.sql_grammar.specs.Unique.{token_in}
+use Rattle.sql_grammar.specs.work.Unique.{token_in}
 use Rattle.sql_grammar.proofs.ExprTrees.{tokens-are}
-use Rattle.expr_reader.specs.Reading.{Begins, BeginsNot}
+use Rattle.expr_reader.specs.work.Reading.{Begins, BeginsNot}
 use Rattle.catalog.specs.Contents.{Contents, NamedIndex}
 use Rattle.sql_query.specs.Queries.{Query}
 use Rattle.index_reader.specs.AdviseCandidates.{with_room}
 use Rattle.index_reader.specs.AdviseMeaning.{Asked, CandidatesMean, AdviseMeans, PartsMean, QueriesMean, most_meant}
 use Rattle.index_reader.specs.Parts.{candidates_of, name_token}
-use Rattle.index_reader.specs.Walk.{QueryRow, Row}
+use Rattle.index_reader.specs.work.Walk.{QueryRow, Row}
 use Rattle.index_reader.proofs.StandLemmas.{behind}
-use Rattle.index_reader.specs.AdviseStatements.{PartsStand, begins_advise}
+use Rattle.index_reader.specs.work.AdviseStatements.{PartsStand, begins_advise}
 
 -- a statement that begins with ADVISE is one
 is-advise : (x : Statement) (ts : List Terminal) → words_of x ≡ ts → begins_advise ts ≡ true → (y : Advise) × (x ≡ advise y)

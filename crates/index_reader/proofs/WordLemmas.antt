@@ -5,8 +5,8 @@ use Rattle.sql_grammar.specs.declared.class.Word.TheVariants.{Using as UsingKey}
 use Rattle.sql_grammar.specs.Terminals.{Terminal, t_key}
 use Rattle.sql_grammar.specs.Syntax.{Using, no_using, using_method}
 use Rattle.sql_grammar.specs.Words.{words_of_using}
-use Rattle.expr_reader.specs.Reading.{BeginsNot}
-use Rattle.expr_reader.specs.Reads.{Reads}
+use Rattle.expr_reader.specs.work.Reading.{BeginsNot}
+use Rattle.expr_reader.specs.work.Reads.{Reads}
 use Rattle.index_reader.specs.Keys.{method_bound}
 
 -- USING is not next

@@ -1,12 +1,11 @@
 -- What a candidate for an index means behind earlier ones, or its first fault: as CREATE INDEX has it, but for the limit of
 -- indexes, which comes behind all candidates (PostgreSQL manual, CREATE INDEX; codes: appendix Error Codes; the limits are
 -- own).
-use Rattle.std.specs.Prelude.{◌≡◌, ℕ, ◌+◌, List, [], ◌∷◌, ◌++◌, true, false, cond, nat_lt, length, take, Contains, slice_index_or, Result, Ok, Err}
+use Rattle.std.specs.Prelude.{◌≡◌, ℕ, ◌+◌, List, [], ◌∷◌, ◌++◌, true, false, cond, nat_lt, length, Contains, slice_index_or, Result, Ok, Err}
 use Rattle.pg_base.specs.declared.faults.Code.TheVariants.{S5, S6, S15, S17}
 use Rattle.pg_base.specs.declared.faults.Fault.{Fault}
 use Rattle.pg_base.specs.declared.faults.Limit.TheVariants.{Candidates, Indexes}
 use Rattle.pg_base.specs.declared.limits.TheConstants.{MOST_CANDIDATES, MOST_INDEXES}
-use Rattle.pg_base.specs.declared.numbers.ColNo.{ColNo}
 use Rattle.sql_lex.specs.declared.tokens.Token.{Token}
 use Rattle.sql_grammar.specs.Syntax.{Cand}
 use Rattle.sql_grammar.specs.Faults.{fault_at}
@@ -18,10 +17,6 @@ use Rattle.index_reader.specs.Meaning.{IndexMeant, meaning_of_cand}
 use Rattle.index_reader.specs.Parts.{name_token}
 use Rattle.index_reader.specs.Places.{word_fault}
 use Rattle.index_reader.specs.Stages.{Then}
-
--- the column at a place stands before it too
-abbrev pub StandsBefore : List ColNo → ℕ → Type 0
-StandsBefore columns place = Contains (take place columns) (slice_index_or columns place (record { 0 = 0 }))
 
 -- a candidate that is read may be made, where its table has room: no table, index or earlier candidate has its name, no column
 -- stands twice, and the method has its form

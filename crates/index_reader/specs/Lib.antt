@@ -1,16 +1,10 @@
 pub mod Visible
 pub mod Keys
 pub mod Meaning
-pub mod Reads
-pub mod Soundness
-pub mod Statements
-pub mod Candidates
 pub mod Parts
 pub mod Places
 pub mod Stages
 pub mod AdviseCandidates
 pub mod Queries
 pub mod AdviseMeaning
-pub mod AdviseSoundness
-pub mod Walk
-pub mod AdviseStatements
+pub mod work

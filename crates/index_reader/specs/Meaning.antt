@@ -50,10 +50,6 @@ abbrev pub has_many_atoms : Option Cond → Bool
 has_many_atoms None = false
 has_many_atoms (Some c) = nat_lt MOST_ATOMS (atom_count c)
 
--- too many atoms are an error at the statement's first token
-abbrev pub limited_atoms : {A : Type 0} → Token → Option Cond → A → Result A Fault
-limited_atoms start predicate x = cond (has_many_atoms predicate) (Err (fault_at (S15 Atoms) start)) (Ok x)
-
 -- a new index, all of whose words are bound
 abbrev pub index_reading : Ident → TableNo → MethodRead → List KeyRead → List NamedColumn → Option Cond → IndexMeant
 index_reading n t m keys names predicate = record {

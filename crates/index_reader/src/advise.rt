@@ -5,10 +5,10 @@ ghost use Rattle.sql_lex.specs.Words.{AreWords};
 ghost use Rattle.sql_grammar.specs.Faults.{terminals};
 ghost use Rattle.sql_grammar.specs.Terminals.{Said, Terminal, t_number};
 ghost use Rattle.index_reader.specs.AdviseMeaning.{most_meant};
-ghost use Rattle.index_reader.specs.AdviseSoundness.{IsSound};
-ghost use Rattle.index_reader.specs.AdviseStatements.{advice_asked, begins_advise, IsAdviseMeaning, IsAdviseRefusal, PartsStand, TellsAdvice};
-ghost use Rattle.index_reader.specs.Walk.{QueryRow, Row};
-ghost use Rattle.expr_reader.specs.Reading.{IfNext};
+ghost use Rattle.index_reader.specs.work.AdviseSoundness.{IsSound};
+ghost use Rattle.index_reader.specs.work.AdviseStatements.{advice_asked, begins_advise, IsAdviseMeaning, IsAdviseRefusal, PartsStand, TellsAdvice};
+ghost use Rattle.index_reader.specs.work.Walk.{QueryRow, Row};
+ghost use Rattle.expr_reader.specs.work.Reading.{IfNext};
 
 use crate::advising::Advising;
 use crate::candidates::{AllRead, candidates};

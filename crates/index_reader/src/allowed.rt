@@ -5,11 +5,12 @@ ghost use Rattle.std.specs.List.{list_any};
 ghost use Rattle.std.specs.Str.{bytes_eq};
 ghost use Rattle.pg_base.specs.declared.limits.TheConstants.{MOST_COLUMNS};
 ghost use Rattle.catalog.specs.Contents.{all_names};
-ghost use Rattle.catalog.specs.Entries.{index_of};
+ghost use Rattle.catalog.specs.work.Entries.{index_of};
 ghost use Rattle.catalog.specs.Indexes.{AreDifferentColumns, IsFirstTwice, columns_of, has_form, is_plain};
 ghost use Rattle.catalog.specs.Candidates.{with_candidates};
-ghost use Rattle.index_reader.specs.Reads.{index_meant};
-ghost use Rattle.index_reader.specs.AdviseCandidates.{IsAllowed, IsNotAllowed, StandsBefore};
+ghost use Rattle.index_reader.specs.work.Reads.{index_meant};
+ghost use Rattle.index_reader.specs.AdviseCandidates.{IsAllowed, IsNotAllowed};
+ghost use Rattle.index_reader.specs.work.AdviseCandidates.{StandsBefore};
 ghost use Rattle.index_reader.specs.Places.{end_of_word as end_of_word_at, word_fault};
 
 use crate::ReadIndex;

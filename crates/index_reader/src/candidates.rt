@@ -8,11 +8,12 @@ ghost use Rattle.sql_grammar.specs.declared.class.Symbol.TheVariants.{Close};
 ghost use Rattle.sql_grammar.specs.Terminals.{t_mark};
 ghost use Rattle.sql_grammar.specs.Faults.{terminals};
 ghost use Rattle.catalog.specs.Contents.{NamedIndex};
-ghost use Rattle.catalog.specs.Candidates.{IsCandidateIndex, names_of, with_candidates};
+ghost use Rattle.catalog.specs.Candidates.{with_candidates};
+ghost use Rattle.catalog.specs.work.Candidates.{IsCandidateIndex, names_of};
 ghost use Rattle.index_reader.specs.AdviseCandidates.{CandidateMeans};
 ghost use Rattle.index_reader.specs.AdviseMeaning.{CandidatesMean};
 ghost use Rattle.index_reader.specs.Parts.{candidates_of, name_token};
-ghost use Rattle.index_reader.specs.Walk.{AreApart, Row, RowAt, StandsCand, TellsNextCandidate, TellsRow};
+ghost use Rattle.index_reader.specs.work.Walk.{AreApart, Row, RowAt, StandsCand, TellsNextCandidate, TellsRow};
 
 use crate::allowed::not_allowed;
 use crate::ends::end_of_candidate;

@@ -3,7 +3,7 @@
 ghost use Rattle.std.specs.Prelude.{◌≡◌, ◌≤◌, length, true, OnOk};
 ghost use Rattle.opfamily.specs.Answers.{class_of_name};
 ghost use Rattle.index_reader.specs.Keys.{class_has_method, class_known};
-ghost use Rattle.index_reader.specs.Reads.{opens_class, begins_class, StandsClass, ReadsClass};
+ghost use Rattle.index_reader.specs.work.Reads.{opens_class, begins_class, StandsClass, ReadsClass};
 
 use expr_reader::{Cursor, Spelled};
 use opfamily::{Method, OpClass, accepts, class_named, default_class, family};

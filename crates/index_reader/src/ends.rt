@@ -2,7 +2,7 @@
 
 ghost use Rattle.std.specs.Prelude.{◌^◌, ◌≤◌, ℕ, length};
 ghost use Rattle.sql_lex.specs.Words.{AreWords};
-ghost use Rattle.index_reader.specs.Walk.{StandsCand, IsEndOfCand, StandsWindowed, IsEndOfWindowed};
+ghost use Rattle.index_reader.specs.work.Walk.{StandsCand, IsEndOfCand, StandsWindowed, IsEndOfWindowed};
 
 use sql_grammar::{cand_end, one_candidate, one_windowed_select, windowed_select_end};
 use sql_lex::Tokens;

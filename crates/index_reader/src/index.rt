@@ -2,16 +2,16 @@
 
 ghost use Rattle.std.specs.Prelude.{◌≡◌, ◌≤◌, ◌++◌, ◌∷◌, map, option_map, true, IfOk, MatchResult};
 ghost use Rattle.pg_base.specs.declared.faults.Code.TheVariants.{S2};
-ghost use Rattle.pg_expr.specs.View.{cond};
+ghost use Rattle.pg_expr.specs.work.View.{cond};
 ghost use Rattle.sql_grammar.specs.Terminals.{Terminal, Ident};
 ghost use Rattle.sql_lex.specs.declared.tokens.Token.{Token};
 ghost use Rattle.expr_reader.specs.Reading.{spelled};
 ghost use Rattle.catalog.specs.Contents.{IsTable, IsLawful};
-ghost use Rattle.catalog.specs.Entries.{index_of};
+ghost use Rattle.catalog.specs.work.Entries.{index_of};
 ghost use Rattle.catalog.specs.Tables.{table_named};
 ghost use Rattle.ddl_reader.specs.Statistics.{known};
 ghost use Rattle.index_reader.specs.Meaning.{index_reading, name_tokens};
-ghost use Rattle.index_reader.specs.Reads.{index_meant, AreOfCand, ReadsCand};
+ghost use Rattle.index_reader.specs.work.Reads.{index_meant, AreOfCand, ReadsCand};
 
 use crate::keys::{KeyRead, keys};
 use crate::limits::{check_atoms, check_columns, name_tokens_of};

@@ -4,8 +4,8 @@ ghost use Rattle.std.specs.Prelude.{◌≡◌, ◌≤◌, length, OnOk};
 ghost use Rattle.catalog.specs.Contents.{IsTable, IsColumn, table_at};
 ghost use Rattle.catalog.specs.Indexes.{type_at};
 ghost use Rattle.index_reader.specs.Keys.{key_bound, all_key_trees};
-ghost use Rattle.index_reader.specs.Reads.{words_of_keys_left, ReadsEach, StandsKey, ReadsIndexKey};
-ghost use Rattle.expr_reader.specs.Reading.{StandsList, IfList};
+ghost use Rattle.index_reader.specs.work.Reads.{words_of_keys_left, ReadsEach, StandsKey, ReadsIndexKey};
+ghost use Rattle.expr_reader.specs.work.Reading.{StandsList, IfList};
 
 use crate::classes::op_class;
 use crate::names::column_of;

@@ -2,8 +2,9 @@
 
 ghost use Rattle.std.specs.Prelude.{◌≡◌, List, drop, map, option_map, Ok, IfOk};
 ghost use Rattle.pg_base.specs.declared.limits.TheConstants.{MOST_COLUMNS};
-ghost use Rattle.pg_expr.specs.View.{cond};
-ghost use Rattle.index_reader.specs.Meaning.{limited_names, name_tokens, limited_atoms};
+ghost use Rattle.pg_expr.specs.work.View.{cond};
+ghost use Rattle.index_reader.specs.Meaning.{limited_names, name_tokens};
+ghost use Rattle.index_reader.specs.work.Meaning.{limited_atoms};
 
 use crate::keys::KeyRead;
 use crate::names::NamedColumn;

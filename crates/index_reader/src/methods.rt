@@ -2,10 +2,10 @@
 
 ghost use Rattle.std.specs.Prelude.{◌≡◌};
 ghost use Rattle.sql_grammar.specs.Words.{words_of_using};
-ghost use Rattle.expr_reader.specs.Reads.{Reads};
+ghost use Rattle.expr_reader.specs.work.Reads.{Reads};
 ghost use Rattle.index_reader.specs.Keys.{method_of_name, method_bound};
-ghost use Rattle.index_reader.specs.Reads.{ends_using};
-ghost use Rattle.expr_reader.specs.Reading.{StandsFirst, IfFirst};
+ghost use Rattle.index_reader.specs.work.Reads.{ends_using};
+ghost use Rattle.expr_reader.specs.work.Reading.{StandsFirst, IfFirst};
 
 use expr_reader::Cursor;
 use opfamily::Method;

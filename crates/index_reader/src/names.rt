@@ -6,12 +6,12 @@ ghost use Rattle.sql_grammar.specs.Terminals.{Terminal, Ident, t_name};
 ghost use Rattle.sql_grammar.specs.Words.{words_of_include};
 ghost use Rattle.catalog.specs.Contents.{IsTable, IsColumn};
 ghost use Rattle.catalog.specs.Tables.{column_named};
-ghost use Rattle.expr_reader.specs.Reads.{Reads};
+ghost use Rattle.expr_reader.specs.work.Reads.{Reads};
 ghost use Rattle.expr_reader.specs.Lists.{further_parts};
 ghost use Rattle.ddl_reader.specs.Statistics.{known};
 ghost use Rattle.index_reader.specs.Keys.{name_bound, include_names};
-ghost use Rattle.index_reader.specs.Reads.{ends_include, words_of_names_left, ReadsEach};
-ghost use Rattle.expr_reader.specs.Reading.{StandsFirst, IfFirst, IfNext, StandsList, IfList};
+ghost use Rattle.index_reader.specs.work.Reads.{ends_include, words_of_names_left, ReadsEach};
+ghost use Rattle.expr_reader.specs.work.Reading.{StandsFirst, IfFirst, IfNext, StandsList, IfList};
 
 use catalog::Catalog;
 use expr_reader::{Cursor, Spelled};

@@ -1,14 +1,14 @@
 //! The condition of an index.
 
 ghost use Rattle.std.specs.Prelude.{IfOk, option_map};
-ghost use Rattle.pg_expr.specs.View.{cond};
+ghost use Rattle.pg_expr.specs.work.View.{cond};
 ghost use Rattle.sql_grammar.specs.Words.{words_of_where};
 ghost use Rattle.catalog.specs.Contents.{table_at};
 ghost use Rattle.catalog.specs.Indexes.{IsPredicateOf};
-ghost use Rattle.expr_reader.specs.Reads.{Reads};
-ghost use Rattle.query_reader.specs.Ends.{ends_where};
+ghost use Rattle.expr_reader.specs.work.Reads.{Reads};
+ghost use Rattle.query_reader.specs.work.Ends.{ends_where};
 ghost use Rattle.index_reader.specs.Meaning.{condition_bound};
-ghost use Rattle.expr_reader.specs.Reading.{StandsFirst, IfFirst};
+ghost use Rattle.expr_reader.specs.work.Reading.{StandsFirst, IfFirst};
 
 use crate::table_scope::TableScope;
 use expr_reader::{Cursor, take_expr};

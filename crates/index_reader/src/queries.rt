@@ -5,7 +5,7 @@ ghost use Rattle.pg_base.specs.declared.limits.TheConstants.{MOST_QUERIES};
 ghost use Rattle.sql_lex.specs.Words.{AreWords};
 ghost use Rattle.eq_classes.specs.Holding.{IsClassTable};
 ghost use Rattle.sql_query.specs.WellBound.{IsWellBound, given_of};
-ghost use Rattle.index_reader.specs.Walk.{ArePlannable, QueryRow, QueryRowAt, TellsQueryRow, TellsNextQuery, StandsAdvised};
+ghost use Rattle.index_reader.specs.work.Walk.{ArePlannable, QueryRow, QueryRowAt, TellsQueryRow, TellsNextQuery, StandsAdvised};
 
 use crate::ends::end_of_select;
 use catalog::Catalog;

@@ -5,7 +5,7 @@ ghost use Rattle.pg_base.specs.declared.limits.TheConstants.{MOST_CANDIDATES};
 ghost use Rattle.catalog.specs.Contents.{IsTable, indexes_of};
 ghost use Rattle.catalog.specs.Candidates.{with_candidates};
 ghost use Rattle.index_reader.specs.AdviseCandidates.{with_room};
-ghost use Rattle.index_reader.specs.Walk.{AreApart, HaveRoom};
+ghost use Rattle.index_reader.specs.work.Walk.{AreApart, HaveRoom};
 
 use catalog::{Candidate, Catalog};
 use pg_base::{Code, Fault, Limit, MOST_INDEXES, TableNo};

@@ -23,7 +23,7 @@ pub struct TableScope<'a> {
 impl<'a> Model for TableScope<'a> {
     ghost use Rattle.std.specs.Coded.{codes};
     ghost use Rattle.std.specs.Prelude.{◌≡◌};
-    ghost use Rattle.pg_expr.specs.CondCode.{cond_code};
+    ghost use Rattle.pg_expr.specs.work.CondCode.{cond_code};
     ghost use Rattle.catalog.specs.Contents.{IsTable, IsLawfulTable, table_at};
     ghost use Rattle.index_reader.specs.Visible.{Sight};
 

@@ -3,7 +3,8 @@ use Rattle.std.proofs.Common.{Bool, true, false, true≢false, ◌≡◌, ◌≢
 use Rattle.std.specs.Prelude.{MatchOption, Option, Some, None, slice_get}
 use Rattle.std.proofs.lemmas.Bool.{lt-ltb}
 use Rattle.std.proofs.lemmas.Option.{slice_get_within, same_Some}
-use Rattle.pg_base.specs.Sets.{Meets, has}
+use Rattle.pg_base.specs.Sets.{has}
+use Rattle.pg_base.specs.work.Sets.{Meets}
 use Rattle.pg_base.specs.declared.rel_set.RelSet.{RelSet}
 use Rattle.catalog.specs.Contents.{Contents}
 use Rattle.eq_classes.specs.Holding.{AreApart}
@@ -13,31 +14,31 @@ use Rattle.plan_tree.specs.Costs.{cost}
 use Rattle.plan_tree.specs.Least.{IsAdmissible}
 use Rattle.plan_tree.specs.Paths.{startup_kept}
 use Rattle.eq_classes.specs.declared.classes.ClassNo.{ClassNo}
-use Rattle.pathkeys.specs.Finding.{class_numbers}
+use Rattle.pathkeys.specs.work.Finding.{class_numbers}
 use Rattle.pathkeys.specs.Keys.{Keys}
 use Rattle.plan_tree.specs.Plans.{Plan, seq, index, index_only, bitmap, sort, nest, merge, is_sort}
 use Rattle.plan_laws.specs.Closed.{IsKeptSide}
 use Rattle.plan_tree.specs.Space.{HasKeys, IsBuilt, IsSameSet}
 use Rattle.plan_check.specs.Certificates.{Certificate, Entry, join_by, sorted_if, unfold_at}
 use Rattle.plan_check.specs.Tables.{IsEntryPlan}
-use Rattle.plan_check.specs.Views.{entry}
+use Rattle.plan_check.specs.work.Views.{entry}
 use Rattle.plan_check.specs.declared.entry.Entry.{Entry as Entered}
 use Rattle.plan_check.proofs.UnfoldLemmas.{entry-at, numbered}
-use Rattle.plan_check.specs.Beating.{IsBeaten, IsRight, IsUnbeaten}
-use Rattle.plan_check.specs.Joining.{MayMerge}
-use Rattle.plan_check.specs.Placing.{IsOf}
+use Rattle.plan_check.specs.work.Beating.{IsBeaten, IsRight, IsUnbeaten}
+use Rattle.plan_check.specs.work.Joining.{MayMerge}
+use Rattle.plan_check.specs.work.Placing.{IsOf}
 use Rattle.plan_check.specs.Reasons.{AllRight}
 use Rattle.plan_check.specs.declared.verdict.Plain.{Plain}
 use Rattle.plan_check.specs.declared.verdict.Plain.TheVariants as plain
 use Rattle.plan_check.proofs.BeatingLemmas.{beaten-dominated, kept, unbeaten-none}
 use Rattle.plan_check.proofs.MergeLemmas.{built-merge}
 use Rattle.plan_check.proofs.NestLemmas.{built-nest}
-use Rattle.entry_check.specs.Owning.{HasRight}
+use Rattle.entry_check.specs.work.Owning.{HasRight}
 use Rattle.entry_check.proofs.NestLemmas.{apart-not}
 use Rattle.entry_check.proofs.PartLemmas.{relation-below}
 use Rattle.plan_tree.proofs.SetLemmas.{within-most}
-use Rattle.join_cover.specs.Serving.{AreJoinsOf, AreJoinsServed, AreMergesOf, AreMergesServed, AreNestsOf, AreNestsServed, IsJoinOfSets, IsListServed, IsMergeBy, IsMergeOfSets, IsMergeOpen, IsMergeServed, IsNestServed, IsOpen, IsServed}
-use Rattle.join_cover.specs.Covering.{IsMergeNode}
+use Rattle.join_cover.specs.work.Serving.{AreJoinsOf, AreJoinsServed, AreMergesOf, AreMergesServed, AreNestsOf, AreNestsServed, IsJoinOfSets, IsListServed, IsMergeBy, IsMergeOfSets, IsMergeOpen, IsMergeServed, IsNestServed, IsOpen, IsServed}
+use Rattle.join_cover.specs.work.Covering.{IsMergeNode}
 use Rattle.join_cover.specs.declared.uncovered.Uncovered.{Uncovered}
 
 module _ (c : Contents) (q : Query) (t : Certificate) (right : AllRight c q t) where

@@ -9,23 +9,23 @@ use Rattle.pathkeys.specs.Keys.{Keys}
 use Rattle.pathkeys.proofs.CoveringLemmas.{covers-refl}
 use Rattle.sql_query.specs.Queries.{Query}
 use Rattle.plan_tree.specs.Costs.{cost}
-use Rattle.plan_tree.specs.Least.{StandsFor}
+use Rattle.plan_tree.specs.work.Least.{StandsFor}
 use Rattle.plan_tree.specs.Plans.{Plan, merge, sort}
 use Rattle.plan_tree.specs.Space.{IsBuilt, IsEmpty, IsLike}
 use Rattle.plan_tree.proofs.DominationLemmas.{dominates-refl, dominates-trans, merge-dominates}
 use Rattle.plan_tree.proofs.ReplacingLemmas.{sort-totals}
 use Rattle.plan_tree.proofs.WindowLemmas.{startup-from}
 use Rattle.plan_check.specs.Certificates.{Certificate, Entry, sorted_if, unfold_at}
-use Rattle.plan_check.specs.Beating.{IsRight}
-use Rattle.plan_check.specs.Joining.{MayMerge}
-use Rattle.plan_check.specs.Placing.{ArePlaced, IsOf, first_of, order_of, past_of, place_at}
+use Rattle.plan_check.specs.work.Beating.{IsRight}
+use Rattle.plan_check.specs.work.Joining.{MayMerge}
+use Rattle.plan_check.specs.work.Placing.{ArePlaced, IsOf, first_of, order_of, past_of, place_at}
 use Rattle.plan_check.specs.Reasons.{AllRight}
 use Rattle.plan_check.specs.declared.places.SetPlaces.{SetPlaces}
 use Rattle.plan_check.proofs.MergeLemmas.{built-merge}
 use Rattle.plan_check.proofs.PlacedLemmas.{each-of}
 use Rattle.pg_base.proofs.SetLaws.{none-zero}
-use Rattle.join_cover.specs.Leasts.{IsLeastFrom, IsLeastWhole, IsWhole}
-use Rattle.join_cover.specs.Serving.{AreMergesBy, IsMergeServed, IsRowServed, IsServed}
+use Rattle.join_cover.specs.work.Leasts.{IsLeastFrom, IsLeastWhole, IsWhole}
+use Rattle.join_cover.specs.work.Serving.{AreMergesBy, IsMergeServed, IsRowServed, IsServed}
 use Rattle.join_cover.proofs.CoverLemmas.{right-at}
 use Rattle.pg_base.proofs.NumberLemmas.{each-below as below-next}
 

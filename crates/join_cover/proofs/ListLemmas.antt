@@ -8,10 +8,11 @@ use Rattle.std.proofs.lemmas.Bool.{and_parts}
 use Rattle.pg_base.specs.Sets.{has}
 use Rattle.catalog.specs.Contents.{Contents}
 use Rattle.eq_classes.specs.Clauses.{Set, ClassTable}
-use Rattle.eq_classes.specs.Parts.{first_four, joining_from}
+use Rattle.eq_classes.specs.Parts.{joining_from}
+use Rattle.eq_classes.specs.work.Parts.{first_four}
 use Rattle.eq_classes.specs.declared.classes.ClassNo.{ClassNo}
 use Rattle.sql_query.specs.Queries.{Query}
-use Rattle.pathkeys.specs.Finding.{class_numbers}
+use Rattle.pathkeys.specs.work.Finding.{class_numbers}
 use Rattle.pathkeys.specs.Keys.{AreDifferent, Keys}
 use Rattle.plan_tree.specs.Space.{IsMergeList}
 use Rattle.entry_check.specs.plan_space_JoinLemmas.{found-four}
@@ -19,7 +20,7 @@ use Rattle.plan_check.specs.Certificates.{Certificate}
 use Rattle.plan_check.specs.Reasons.{AllRight}
 use Rattle.plan_check.specs.declared.verdict.Plain.{Plain}
 use Rattle.plan_check.proofs.MergeLemmas.{built-merge}
-use Rattle.join_cover.specs.Serving.{AreListsOf, AreMergesBy, AreMergesOf, AreThirdsServed, IsFirstServed, IsSecondServed}
+use Rattle.join_cover.specs.work.Serving.{AreListsOf, AreMergesBy, AreMergesOf, AreThirdsServed, IsFirstServed, IsSecondServed}
 use Rattle.join_cover.specs.declared.uncovered.Uncovered.{Uncovered}
 use Rattle.join_cover.proofs.CoverLemmas.{right-at}
 use Rattle.join_cover.proofs.WalkLemmas.{IsFound, any-found, found-any}

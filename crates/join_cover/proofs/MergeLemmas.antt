@@ -6,20 +6,20 @@ use Rattle.pg_base.specs.declared.rel_set.RelSet.{RelSet}
 use Rattle.catalog.specs.Contents.{Contents}
 use Rattle.eq_classes.specs.declared.classes.ClassNo.{ClassNo}
 use Rattle.sql_query.specs.Queries.{Query}
-use Rattle.pathkeys.specs.Finding.{class_numbers}
+use Rattle.pathkeys.specs.work.Finding.{class_numbers}
 use Rattle.plan_tree.specs.Space.{IsMergeList}
 use Rattle.plan_check.specs.Certificates.{Certificate, Entry}
-use Rattle.plan_check.specs.Views.{entry}
+use Rattle.plan_check.specs.work.Views.{entry}
 use Rattle.plan_check.specs.declared.entry.Entry.{Entry as Entered}
 use Rattle.entry_check.specs.declared.merges.MergeWork.{MergeWork}
 use Rattle.entry_check.specs.declared.nests.NestWork.{NestWork}
-use Rattle.plan_check.specs.Placing.{ArePlaced, IsOf, first_of, order_of, past_of, place_at}
+use Rattle.plan_check.specs.work.Placing.{ArePlaced, IsOf, first_of, order_of, past_of, place_at}
 use Rattle.plan_check.specs.declared.places.SetPlaces.{SetPlaces}
 use Rattle.plan_check.specs.declared.verdict.Plain.{Plain}
 use Rattle.plan_check.specs.declared.verdict.Plain.TheVariants as plain
 use Rattle.plan_check.proofs.PlacedLemmas.{each-of}
-use Rattle.join_cover.specs.Leasts.{IsLeastFrom}
-use Rattle.join_cover.specs.Serving.{AreMergesBy, AreNestsBy, AreNestsOf, IsNestServed, IsMergeBy, IsMergeOfSets, IsNumberOf, IsOpen, AreSides}
+use Rattle.join_cover.specs.work.Leasts.{IsLeastFrom}
+use Rattle.join_cover.specs.work.Serving.{AreMergesBy, AreNestsBy, AreNestsOf, IsNestServed, IsMergeBy, IsMergeOfSets, IsNumberOf, IsOpen, AreSides}
 use Rattle.join_cover.specs.declared.uncovered.Uncovered.{Uncovered}
 use Rattle.pg_base.proofs.NumberLemmas.{each-below as below-next}
 

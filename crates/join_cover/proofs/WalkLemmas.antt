@@ -5,7 +5,7 @@ use Rattle.std.specs.List.{list_any}
 use Rattle.std.proofs.lemmas.Bool.{cases_lt, eq-eqb, eqb-true}
 use Rattle.std.proofs.lemmas.Option.{slice_get_within}
 use Rattle.eq_classes.specs.declared.classes.ClassNo.{ClassNo}
-use Rattle.pathkeys.specs.Finding.{is_class}
+use Rattle.pathkeys.specs.work.Finding.{is_class}
 
 -- each class that was found before a place has a property
 abbrev pub AreBefore : (ClassNo → Type 0) → List (Option ClassNo) → ℕ → Type 0

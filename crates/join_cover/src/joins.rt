@@ -2,13 +2,13 @@
 
 ghost use Rattle.std.specs.Prelude.{MatchOption};
 ghost use Rattle.pg_base.specs.Sets.{has};
-ghost use Rattle.plan_tree.specs.Reads.{IsOverTables};
+ghost use Rattle.plan_tree.specs.work.Reads.{IsOverTables};
 ghost use Rattle.plan_tree.specs.Space.{IsSameSet};
-ghost use Rattle.plan_check.specs.Views.{certificate};
-ghost use Rattle.plan_check.specs.Placing.{ArePlaced};
+ghost use Rattle.plan_check.specs.work.Views.{certificate};
+ghost use Rattle.plan_check.specs.work.Placing.{ArePlaced};
 ghost use Rattle.plan_check.specs.Reasons.{AllRight};
 ghost use Rattle.sql_query.specs.Queries.{all_of_query};
-ghost use Rattle.join_cover.specs.Covering.{CoversAllJoins, CoversJoins, CoversJoinsUpTo, CoversMerges, MissesJoin, MissesJoinOf, MissesMerges};
+ghost use Rattle.join_cover.specs.work.Covering.{CoversAllJoins, CoversJoins, CoversJoinsUpTo, CoversMerges, MissesJoin, MissesJoinOf, MissesMerges};
 
 use crate::lists::open_firsts;
 use crate::nests::open_nests;

@@ -1,9 +1,9 @@
 //! The least entries of a set.
 
 ghost use Rattle.std.specs.Prelude.{◌≡◌, ◌<◌, ◌≤◌, IfNone, IfSome, length, map};
-ghost use Rattle.plan_check.specs.Views.{certificate, entry};
-ghost use Rattle.plan_check.specs.Placing.{ArePlaced, order_of};
-ghost use Rattle.join_cover.specs.Leasts.{HasNoWhole, IsLeastFrom, IsLeastWhole, TakesNext};
+ghost use Rattle.plan_check.specs.work.Views.{certificate, entry};
+ghost use Rattle.plan_check.specs.work.Placing.{ArePlaced, order_of};
+ghost use Rattle.join_cover.specs.work.Leasts.{HasNoWhole, IsLeastFrom, IsLeastWhole, TakesNext};
 
 use pg_base::RelSet;
 use plan_check::{Entry, Judged, SetPlaces};

@@ -1,13 +1,13 @@
 //! Merges of the entries of two sets by each list of theirs.
 
 ghost use Rattle.std.specs.Prelude.{MatchOption, [], ◌∷◌};
-ghost use Rattle.pathkeys.specs.Finding.{class_numbers};
-ghost use Rattle.plan_tree.specs.Reads.{IsOverTables};
-ghost use Rattle.plan_check.specs.Views.{certificate};
-ghost use Rattle.plan_check.specs.Placing.{ArePlaced};
+ghost use Rattle.pathkeys.specs.work.Finding.{class_numbers};
+ghost use Rattle.plan_tree.specs.work.Reads.{IsOverTables};
+ghost use Rattle.plan_check.specs.work.Views.{certificate};
+ghost use Rattle.plan_check.specs.work.Placing.{ArePlaced};
 ghost use Rattle.plan_check.specs.Reasons.{AllRight};
-ghost use Rattle.join_cover.specs.Serving.{AreListsOf};
-ghost use Rattle.join_cover.specs.Covering.{CoversFirst, CoversFirsts, CoversMergesBy, CoversSecond, CoversSeconds, CoversThirds, CoversThree, IsListOfSets, MissesMerges};
+ghost use Rattle.join_cover.specs.work.Serving.{AreListsOf};
+ghost use Rattle.join_cover.specs.work.Covering.{CoversFirst, CoversFirsts, CoversMergesBy, CoversSecond, CoversSeconds, CoversThirds, CoversThree, IsListOfSets, MissesMerges};
 
 use crate::merges::open_work;
 use crate::uncovered::Uncovered;

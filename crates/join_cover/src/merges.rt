@@ -1,13 +1,13 @@
 //! Merges of the entries of two sets by a list, as they stand or sorted.
 
 ghost use Rattle.std.specs.Prelude.{◌≡◌, ◌<◌, ◌≤◌, ◌-◌, ◌^◌, MatchOption, false, length};
-ghost use Rattle.plan_tree.specs.Reads.{IsOverTables};
-ghost use Rattle.plan_check.specs.Views.{certificate};
-ghost use Rattle.entry_check.specs.Working.{IsMergeWork};
-ghost use Rattle.plan_check.specs.Placing.{ArePlaced, order_of};
+ghost use Rattle.plan_tree.specs.work.Reads.{IsOverTables};
+ghost use Rattle.plan_check.specs.work.Views.{certificate};
+ghost use Rattle.entry_check.specs.work.Working.{IsMergeWork};
+ghost use Rattle.plan_check.specs.work.Placing.{ArePlaced, order_of};
 ghost use Rattle.plan_check.specs.Reasons.{AllRight};
-ghost use Rattle.join_cover.specs.Leasts.{IsLeastWhole};
-ghost use Rattle.join_cover.specs.Covering.{CoversMerge, CoversPlain, CoversPlainIn, CoversRow, CoversRowsIn, CoversWork, HasMergeList, IsMergeNode, IsNodeOfMerge, MissesMerge, MissesWork};
+ghost use Rattle.join_cover.specs.work.Leasts.{IsLeastWhole};
+ghost use Rattle.join_cover.specs.work.Covering.{CoversMerge, CoversPlain, CoversPlainIn, CoversRow, CoversRowsIn, CoversWork, HasMergeList, IsMergeNode, IsNodeOfMerge, MissesMerge, MissesWork};
 
 use crate::least::least_whole;
 use crate::uncovered::Uncovered;

@@ -1,12 +1,12 @@
 //! Nested loops of the entries of two sets.
 
 ghost use Rattle.std.specs.Prelude.{◌≡◌, ◌<◌, ◌≤◌, MatchOption, length};
-ghost use Rattle.plan_tree.specs.Reads.{IsOverTables};
-ghost use Rattle.plan_check.specs.Views.{certificate};
-ghost use Rattle.entry_check.specs.Working.{IsNestWork};
-ghost use Rattle.plan_check.specs.Placing.{ArePlaced, order_of};
+ghost use Rattle.plan_tree.specs.work.Reads.{IsOverTables};
+ghost use Rattle.plan_check.specs.work.Views.{certificate};
+ghost use Rattle.entry_check.specs.work.Working.{IsNestWork};
+ghost use Rattle.plan_check.specs.work.Placing.{ArePlaced, order_of};
 ghost use Rattle.plan_check.specs.Reasons.{AllRight};
-ghost use Rattle.join_cover.specs.Covering.{CoversNest, CoversNestsBy, CoversNestsIn, CoversNestsOf, MissesNest, MissesNestAt, MissesNestWith};
+ghost use Rattle.join_cover.specs.work.Covering.{CoversNest, CoversNestsBy, CoversNestsIn, CoversNestsOf, MissesNest, MissesNestAt, MissesNestWith};
 
 use crate::uncovered::Uncovered;
 use entry_check::{NestWork, nest_with, nest_work_given};

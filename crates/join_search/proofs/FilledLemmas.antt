@@ -7,13 +7,13 @@ use Rattle.std.proofs.lemmas.List.Elements.{All-contains}
 use Rattle.pg_base.specs.declared.rel_set.RelSet.{RelSet}
 use Rattle.catalog.specs.Contents.{Contents}
 use Rattle.sql_query.specs.Queries.{Query}
-use Rattle.plan_tree.specs.Paths.{Path}
-use Rattle.plan_tree.specs.Views.{path}
+use Rattle.plan_tree.specs.work.Paths.{Path}
+use Rattle.plan_tree.specs.work.Views.{path}
 use Rattle.plan_tree.specs.declared.path.Path.{Path as Costed}
-use Rattle.join_search.specs.Offers.{AreJoinsServed}
-use Rattle.join_search.specs.Past.{HasNoJoins}
-use Rattle.join_search.specs.Splits.{HasEachFilled, IsDivided}
-use Rattle.join_search.specs.Tables.{Fronts, IsSamePlace, front_at, none, paths_at, paths_of}
+use Rattle.join_search.specs.work.Offers.{AreJoinsServed}
+use Rattle.join_search.specs.work.Past.{HasNoJoins}
+use Rattle.join_search.specs.work.Splits.{HasEachFilled, IsDivided}
+use Rattle.join_search.specs.work.Tables.{Fronts, IsSamePlace, front_at, none, paths_at, paths_of}
 use Rattle.join_search.specs.declared.table.Table.{Table}
 use Rattle.join_search.specs.declared.useful.Asked.{Asked}
 use Rattle.join_search.proofs.SearchLemmas.{split-bare, split-none}

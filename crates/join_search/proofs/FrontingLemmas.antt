@@ -3,29 +3,29 @@ use Rattle.std.proofs.Common.{◌≡◌, ◌⊎◌, ◌++◌, ◌&&◌, not, Lis
 use Rattle.std.specs.Prelude.{All, AllPairs, Contains}
 use Rattle.std.proofs.lemmas.List.Elements.{All-contains, All-contains_itself, All-map, All-push, All-weaker}
 use Rattle.std.proofs.lemmas.List.Sorted.{Contains-permutation, IsPermutation-map, IsPermutation-sym}
-use Rattle.pareto.specs.Front as pareto
-use Rattle.pareto.specs.Front.{AreKeptOr, Unrelated}
+use Rattle.pareto.specs.work.Front as pareto
+use Rattle.pareto.specs.work.Front.{AreKeptOr, Unrelated}
 use Rattle.pg_base.specs.Sets.{has}
 use Rattle.pg_base.specs.declared.rel_set.RelSet.{RelSet}
 use Rattle.catalog.specs.Contents.{Contents}
-use Rattle.cost_rules.specs.Costs.{capped_pair}
+use Rattle.cost_rules.specs.work.Costs.{capped_pair}
 use Rattle.cost_rules.specs.declared.pair.Pair.{Pair}
 use Rattle.pathkeys.specs.Keys.{Keys}
 use Rattle.sql_query.specs.Queries.{Query, all_of_query}
 use Rattle.plan_tree.specs.Costs.{cost}
-use Rattle.plan_tree.specs.Fronts.{StayDominated}
-use Rattle.plan_tree.specs.Paths.{Path, IsPathOf, kept_cost}
+use Rattle.plan_tree.specs.work.Fronts.{StayDominated}
+use Rattle.plan_tree.specs.work.Paths.{Path, IsPathOf, kept_cost}
 use Rattle.plan_tree.specs.Plans.{empty}
 use Rattle.plan_tree.specs.Space.{IsPlanOf, IsSameSet}
-use Rattle.plan_tree.specs.Views.{is_path_at_most, path}
+use Rattle.plan_tree.specs.work.Views.{is_path_at_most, path}
 use Rattle.plan_tree.specs.declared.path.Path.{Path as Costed}
 use Rattle.plan_tree.proofs.FrontLemmas.{contains-mapped, contains-source, made-dominated, still-dominated}
-use Rattle.kept_paths.specs.Bounds.{IsBeaten}
+use Rattle.kept_paths.specs.work.Bounds.{IsBeaten}
 use Rattle.kept_paths.proofs.PlaceLemmas.{covers-there}
-use Rattle.plan_laws.specs.Useful.{Suffices, outside}
-use Rattle.join_search.specs.Tables.{none}
-use Rattle.join_search.specs.Joins.{AreUndominated, IsPathAt}
-use Rattle.join_search.specs.Sufficing.{HasSufficient, IsPartOfUse, StaySufficient}
+use Rattle.plan_laws.specs.work.Useful.{Suffices, outside}
+use Rattle.join_search.specs.work.Tables.{none}
+use Rattle.join_search.specs.work.Joins.{AreUndominated, IsPathAt}
+use Rattle.join_search.specs.work.Sufficing.{HasSufficient, IsPartOfUse, StaySufficient}
 use Rattle.join_search.specs.declared.useful.Asked.{Asked}
 use Rattle.join_search.proofs.OfferLemmas.{beaten-sufficient, dominating-serves, paths-there, stay-sufficient, sufficient-from}
 use Rattle.join_search.proofs.PlanLemmas.{at-none, at-set}

@@ -6,16 +6,16 @@ use Rattle.std.proofs.lemmas.List.Elements.{All-contains, All-map, All-more, All
 use Rattle.pg_base.specs.declared.rel_set.RelSet.{RelSet}
 use Rattle.catalog.specs.Contents.{Contents}
 use Rattle.sql_query.specs.Queries.{Query}
-use Rattle.plan_tree.specs.Fronts.{StayDominated}
-use Rattle.plan_tree.specs.Paths.{Path}
+use Rattle.plan_tree.specs.work.Fronts.{StayDominated}
+use Rattle.plan_tree.specs.work.Paths.{Path}
 use Rattle.plan_tree.specs.Plans.{Plan, seq, index, index_only, bitmap, sort, nest, merge}
-use Rattle.plan_tree.specs.Views.{path}
+use Rattle.plan_tree.specs.work.Views.{path}
 use Rattle.plan_tree.specs.declared.path.Path.{Path as Costed}
 use Rattle.plan_tree.proofs.FrontLemmas.{contains-mapped}
-use Rattle.join_search.specs.Tables.{Fronts}
-use Rattle.join_search.specs.Joins.{ArePlaced, IsKept, IsPathAt, IsPlanIn, IsSideIn}
-use Rattle.join_search.specs.Offers.{IsCheapest}
-use Rattle.join_search.specs.Sufficing.{IsServed}
+use Rattle.join_search.specs.work.Tables.{Fronts}
+use Rattle.join_search.specs.work.Joins.{ArePlaced, IsKept, IsPathAt, IsPlanIn, IsSideIn}
+use Rattle.join_search.specs.work.Offers.{IsCheapest}
+use Rattle.join_search.specs.work.Sufficing.{IsServed}
 use Rattle.join_search.specs.declared.useful.Asked.{Asked}
 use Rattle.join_search.proofs.OfferLemmas.{cheapest-of, served-later}
 

@@ -14,12 +14,12 @@ use Rattle.pathkeys.specs.Keys.{Keys, index_keys}
 use Rattle.pathkeys.proofs.StepLemmas.{keys_by_are_keys}
 use Rattle.sql_query.specs.Queries.{Query}
 use Rattle.plan_tree.specs.Keys.{keys_of}
-use Rattle.plan_tree.specs.Paths.{Path}
+use Rattle.plan_tree.specs.work.Paths.{Path}
 use Rattle.plan_tree.specs.Plans.{Plan, seq, index, index_only, bitmap, sort, nest, merge, is_empty, is_sort}
 use Rattle.plan_tree.specs.Space.{HasKeys, IsBuilt, IsMergeList}
 use Rattle.plan_laws.proofs.UsefulLemmas.{joining-below}
-use Rattle.join_search.specs.Joins.{IsPathAt}
-use Rattle.join_search.specs.Tables.{none}
+use Rattle.join_search.specs.work.Joins.{IsPathAt}
+use Rattle.join_search.specs.work.Tables.{none}
 
 -- each class of a list is one of the query
 abbrev pub AreClasses : Query → Keys → Type 0

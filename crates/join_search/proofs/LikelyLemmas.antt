@@ -4,10 +4,10 @@ use Rattle.std.specs.Prelude.{All, Some}
 use Rattle.pg_base.specs.declared.rel_set.RelSet.{RelSet}
 use Rattle.catalog.specs.Contents.{Contents}
 use Rattle.sql_query.specs.Queries.{Query}
-use Rattle.plan_tree.specs.Views.{path}
+use Rattle.plan_tree.specs.work.Views.{path}
 use Rattle.plan_tree.specs.declared.path.Path.{Path as Costed}
-use Rattle.join_search.specs.Tables.{IsSamePlace, front_at, none, paths_at, paths_of}
-use Rattle.join_search.specs.Joins.{ArePlaced, IsPathAt}
+use Rattle.join_search.specs.work.Tables.{IsSamePlace, front_at, none, paths_at, paths_of}
+use Rattle.join_search.specs.work.Joins.{ArePlaced, IsPathAt}
 use Rattle.join_search.specs.declared.table.Table.{Table}
 use Rattle.join_search.proofs.SearchLemmas.{same-or-not}
 use Rattle.join_search.proofs.TableLemmas.{same-number}

@@ -7,15 +7,16 @@ use Rattle.std.proofs.lemmas.Bool.{and_parts, and_from, eq-eqb, eqb-true, false�
 use Rattle.std.proofs.lemmas.List.{length-map, map-append, take_more}
 use Rattle.std.proofs.lemmas.List.Elements.{All-append, All-cons, All-head, All-nil, All-tail, Contains-append_left, Contains-append_right, filter-append}
 use Rattle.std.proofs.lemmas.List.Quantifiers.{all_pairs_push}
-use Rattle.eq_classes.specs.Parts.{first_four, joining_from}
+use Rattle.eq_classes.specs.Parts.{joining_from}
+use Rattle.eq_classes.specs.work.Parts.{first_four}
 use Rattle.eq_classes.specs.declared.classes.ClassNo.{ClassNo}
-use Rattle.pathkeys.specs.Finding.{class_numbers}
+use Rattle.pathkeys.specs.work.Finding.{class_numbers}
 use Rattle.pathkeys.specs.Keys.{AreDifferent, Keys}
 use Rattle.catalog.specs.Contents.{Contents}
 use Rattle.eq_classes.specs.Clauses.{Set}
 use Rattle.sql_query.specs.Queries.{Query}
 use Rattle.plan_tree.specs.Space.{IsMergeList}
-use Rattle.join_search.specs.Merges.{all_longer, lists_of, longer, ones, twos}
+use Rattle.join_search.specs.work.Merges.{all_longer, lists_of, longer, ones, twos}
 
 -- the classes that were found, of the first four
 pub somes : List (Option ℕ) → List ℕ

@@ -7,7 +7,8 @@ use Rattle.std.proofs.lemmas.List.Elements.{All-contains, All-contains_itself, A
 use Rattle.pg_base.specs.Sets.{has}
 use Rattle.pg_base.specs.declared.rel_set.RelSet.{RelSet}
 use Rattle.catalog.specs.Contents.{Contents}
-use Rattle.cost_rules.specs.Costs.{IsAtMost, capped, capped_pair, merge_cost, row_cost, sort_cost}
+use Rattle.cost_rules.specs.Costs.{merge_cost, row_cost, sort_cost}
+use Rattle.cost_rules.specs.work.Costs.{IsAtMost, capped, capped_pair}
 use Rattle.cost_rules.specs.declared.pair.Pair.{Pair}
 use Rattle.cost_rules.specs.declared.parameters.TheConstants.{MOST_COST, OPERATOR}
 use Rattle.cost_rules.proofs.CapLemmas.{capped-rises}
@@ -18,27 +19,29 @@ use Rattle.path_cost.specs.Estimates.{conditions_where, is_pair_of, pairs, set_r
 use Rattle.pathkeys.specs.Keys.{Keys, covers}
 use Rattle.pathkeys.proofs.CoveringLemmas.{covers-refl}
 use Rattle.sql_query.specs.Queries.{Query}
-use Rattle.plan_tree.specs.Costs.{HaveRows, cost, estimate, merge_operators}
-use Rattle.plan_tree.specs.Fronts.{StayDominated}
+use Rattle.plan_tree.specs.Costs.{cost, estimate, merge_operators}
+use Rattle.plan_tree.specs.work.Costs.{HaveRows}
+use Rattle.plan_tree.specs.work.Fronts.{StayDominated}
 use Rattle.plan_tree.specs.Keys.{keys_of}
 use Rattle.plan_tree.specs.Least.{IsAdmissible, IsStartupAtMost}
-use Rattle.plan_tree.specs.Paths.{Path, kept_cost, startup_kept}
+use Rattle.plan_tree.specs.Paths.{startup_kept}
+use Rattle.plan_tree.specs.work.Paths.{Path, kept_cost}
 use Rattle.plan_tree.specs.Plans.{Plan, seq, index, index_only, bitmap, sort, nest, merge, empty, is_sort, param_of, set_of}
 use Rattle.plan_tree.specs.Space.{HasKeys, IsBuilt, IsEmpty, IsLike, IsMergeList, IsPlanOf, IsSameSet}
 use Rattle.plan_tree.proofs.BoundLemmas.{merge-most, startup-most}
-use Rattle.plan_tree.specs.Views.{path}
+use Rattle.plan_tree.specs.work.Views.{path}
 use Rattle.plan_tree.specs.declared.path.Path.{Path as Costed}
 use Rattle.plan_tree.proofs.FrontLemmas.{all-sources, contains-mapped}
 use Rattle.plan_tree.proofs.JoinLemmas.{merge_costs}
 use Rattle.plan_tree.proofs.LikeLemmas.{set-like}
 use Rattle.plan_tree.proofs.ReplacingLemmas.{merge-totals, sort-totals}
 use Rattle.plan_tree.proofs.WindowLemmas.{kept-least, kept-most, kept-rises, merge-kept, sort-kept, startup-both, startup-from}
-use Rattle.join_search.specs.Tables.{Fronts, none, paths_at}
-use Rattle.join_search.specs.Joins.{ArePlaced, IsJoinOfKept, IsKept, IsPathAt, IsPlanIn, IsSideIn, IsSideKept}
-use Rattle.join_search.specs.Merges.{AreEarlyServed, AreOutersServed, ArePlainEarlyServed, ArePlainServed, IsBestSide, IsCheapestBy, IsMergeWork, IsSideOf, cost_by, merge_with, side_of, side_path}
-use Rattle.join_search.specs.Offers.{AreMergesServed, IsCheapest}
-use Rattle.join_search.specs.Splits.{IsOver, IsSplit}
-use Rattle.join_search.specs.Sufficing.{HasSufficient, IsServed}
+use Rattle.join_search.specs.work.Tables.{Fronts, none, paths_at}
+use Rattle.join_search.specs.work.Joins.{ArePlaced, IsJoinOfKept, IsKept, IsPathAt, IsPlanIn, IsSideIn, IsSideKept}
+use Rattle.join_search.specs.work.Merges.{AreEarlyServed, AreOutersServed, ArePlainEarlyServed, ArePlainServed, IsBestSide, IsCheapestBy, IsMergeWork, IsSideOf, cost_by, merge_with, side_of, side_path}
+use Rattle.join_search.specs.work.Offers.{AreMergesServed, IsCheapest}
+use Rattle.join_search.specs.work.Splits.{IsOver, IsSplit}
+use Rattle.join_search.specs.work.Sufficing.{HasSufficient, IsServed}
 use Rattle.join_search.specs.declared.sides.Side.{Side}
 use Rattle.join_search.specs.declared.useful.Asked.{Asked}
 use Rattle.join_search.specs.declared.merges.MergeWork.{MergeWork}

@@ -7,7 +7,8 @@ use Rattle.std.proofs.lemmas.List.Elements.{All-contains, All-weaker}
 use Rattle.pg_base.specs.Sets.{has}
 use Rattle.pg_base.specs.declared.rel_set.RelSet.{RelSet}
 use Rattle.catalog.specs.Contents.{Contents}
-use Rattle.cost_rules.specs.Costs.{IsAtMost, capped_pair, nest_cost, row_cost}
+use Rattle.cost_rules.specs.Costs.{nest_cost, row_cost}
+use Rattle.cost_rules.specs.work.Costs.{IsAtMost, capped_pair}
 use Rattle.cost_rules.proofs.CapLemmas.{capped-rises}
 use Rattle.cost_rules.specs.declared.pair.Pair.{Pair}
 use Rattle.eq_classes.specs.Clauses.{Set}
@@ -17,21 +18,21 @@ use Rattle.path_cost.specs.Estimates.{conditions_where}
 use Rattle.pathkeys.proofs.CoveringLemmas.{covers-refl}
 use Rattle.sql_query.specs.Queries.{Query}
 use Rattle.plan_tree.specs.Costs.{cost, estimate, join_operators}
-use Rattle.plan_tree.specs.Fronts.{StayDominated}
+use Rattle.plan_tree.specs.work.Fronts.{StayDominated}
 use Rattle.plan_tree.specs.Keys.{keys_of}
-use Rattle.plan_tree.specs.Paths.{Path, kept_cost}
+use Rattle.plan_tree.specs.work.Paths.{Path, kept_cost}
 use Rattle.plan_tree.specs.Plans.{Plan, empty, joins, nest, param_of, set_of}
 use Rattle.plan_tree.specs.Space.{IsBuilt, IsLike, IsPlanOf}
 use Rattle.plan_tree.specs.declared.path.Path.{Path as Costed}
 use Rattle.plan_tree.proofs.JoinLemmas.{nest_costs}
 use Rattle.plan_tree.proofs.ReplacingLemmas.{nest-totals}
 use Rattle.plan_tree.proofs.WindowLemmas.{kept-most, nest-kept, startup-both, startup-from}
-use Rattle.join_search.specs.Tables.{Fronts, front_at, none, params_of, paths_at, paths_of, places_at}
-use Rattle.join_search.specs.Joins.{ArePlaced, IsPathAt}
-use Rattle.join_search.specs.Nests.{IsInner, nest_operators, nest_with}
-use Rattle.join_search.specs.Offers.{AreEachServed, AreEarlyServed, AreNestsServed, IsCheapest}
-use Rattle.join_search.specs.Splits.{IsSplit}
-use Rattle.join_search.specs.Sufficing.{IsServed}
+use Rattle.join_search.specs.work.Tables.{Fronts, front_at, none, params_of, paths_at, paths_of, places_at}
+use Rattle.join_search.specs.work.Joins.{ArePlaced, IsPathAt}
+use Rattle.join_search.specs.work.Nests.{IsInner, nest_operators, nest_with}
+use Rattle.join_search.specs.work.Offers.{AreEachServed, AreEarlyServed, AreNestsServed, IsCheapest}
+use Rattle.join_search.specs.work.Splits.{IsSplit}
+use Rattle.join_search.specs.work.Sufficing.{IsServed}
 use Rattle.join_search.specs.declared.useful.Asked.{Asked}
 use Rattle.join_search.specs.declared.splits.Split.{Split}
 use Rattle.join_search.specs.declared.table.Table.{Table}

@@ -3,12 +3,12 @@ use Rattle.std.proofs.Common.{◌≡◌, ◌⊎◌, ◌<◌, ◌≤◌, ℕ, tru
 use Rattle.std.specs.Prelude.{All, Contains, Option, None, Some}
 use Rattle.std.proofs.lemmas.Grind.{common_steps}
 use Rattle.std.proofs.lemmas.List.Elements.{All-contains, All-map, All-weaker}
-use Rattle.pareto.specs.Front.{AreKeptOr, IsCovered}
+use Rattle.pareto.specs.work.Front.{AreKeptOr, IsCovered}
 use Rattle.pg_base.specs.Sets.{has}
 use Rattle.pg_base.proofs.SetLaws.{has-zero}
 use Rattle.pg_base.specs.declared.rel_set.RelSet.{RelSet}
 use Rattle.catalog.specs.Contents.{Contents}
-use Rattle.cost_rules.specs.Costs.{IsAtMost, capped_pair}
+use Rattle.cost_rules.specs.work.Costs.{IsAtMost, capped_pair}
 use Rattle.cost_rules.specs.declared.pair.Pair.{Pair}
 use Rattle.cost_rules.specs.declared.parameters.TheConstants.{MOST_COST}
 use Rattle.path_cost.specs.Estimates.{set_rows}
@@ -16,26 +16,27 @@ use Rattle.pathkeys.specs.Keys.{Keys, covers}
 use Rattle.pathkeys.proofs.CoveringLemmas.{covers-trans}
 use Rattle.sql_query.specs.Queries.{Query}
 use Rattle.sql_query.specs.declared.window.Window.{Window}
-use Rattle.plan_tree.specs.Costs.{HaveRows, asked as asked_of, cost, price_by, query_rows}
-use Rattle.plan_tree.specs.Fronts.{ArePathsOf, HasDominating, StayDominated}
+use Rattle.plan_tree.specs.Costs.{asked as asked_of, cost, price_by, query_rows}
+use Rattle.plan_tree.specs.work.Costs.{HaveRows}
+use Rattle.plan_tree.specs.work.Fronts.{ArePathsOf, HasDominating, StayDominated}
 use Rattle.plan_tree.specs.Keys.{keys_of}
-use Rattle.plan_tree.specs.Paths.{Path, kept_cost}
+use Rattle.plan_tree.specs.work.Paths.{Path, kept_cost}
 use Rattle.plan_tree.specs.Least.{Dominates}
 use Rattle.plan_tree.specs.Plans.{Plan, empty, set_of}
 use Rattle.plan_tree.specs.Space.{IsBuilt, IsPlanOf}
-use Rattle.plan_tree.specs.Views.{is_path_at_most, path}
+use Rattle.plan_tree.specs.work.Views.{is_path_at_most, path}
 use Rattle.plan_tree.specs.declared.path.Path.{Path as Costed}
 use Rattle.plan_tree.proofs.BoundLemmas.{asked-most, startup-most}
 use Rattle.plan_tree.proofs.DominationLemmas.{dominates-refl}
 use Rattle.plan_tree.proofs.FrontLemmas.{contains-mapped, made-dominated, still-dominated}
 use Rattle.plan_tree.proofs.WindowLemmas.{kept-least, kept-most, kept-rises, uncut-kept}
-use Rattle.plan_laws.specs.Useful.{IsBelow, IsOfUse, Suffices}
+use Rattle.plan_laws.specs.work.Useful.{IsBelow, IsOfUse, Suffices}
 use Rattle.plan_laws.proofs.UsefulLemmas.{below-from, dominates-suffices, price-falls, suffices-trans}
-use Rattle.kept_paths.specs.Bounds.{IsBeaten}
-use Rattle.join_search.specs.Tables.{Fronts, none}
-use Rattle.join_search.specs.Joins.{IsJoinOfKept, IsJoinPath, IsPathAt}
-use Rattle.join_search.specs.Offers.{IsCheapest, TakesJoins}
-use Rattle.join_search.specs.Sufficing.{AreWholeRows, HasSufficient, IsPartOfUse, IsServed, StaySufficient, floor_in}
+use Rattle.kept_paths.specs.work.Bounds.{IsBeaten}
+use Rattle.join_search.specs.work.Tables.{Fronts, none}
+use Rattle.join_search.specs.work.Joins.{IsJoinOfKept, IsJoinPath, IsPathAt}
+use Rattle.join_search.specs.work.Offers.{IsCheapest, TakesJoins}
+use Rattle.join_search.specs.work.Sufficing.{AreWholeRows, HasSufficient, IsPartOfUse, IsServed, StaySufficient, floor_in}
 use Rattle.join_search.specs.declared.useful.Asked.{Asked}
 use Rattle.join_search.proofs.PlanLemmas.{at-set, at-none, whole-rows}
 use Rattle.plan_tree.proofs.SetLemmas.{sets-same}

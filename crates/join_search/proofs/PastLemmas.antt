@@ -13,18 +13,20 @@ use Rattle.cost_rules.specs.declared.parameters.TheConstants.{MOST_COST, OPERATO
 use Rattle.path_cost.specs.Estimates.{pairs, set_rows}
 use Rattle.pathkeys.specs.Keys.{Keys}
 use Rattle.sql_query.specs.Queries.{Query}
-use Rattle.plan_tree.specs.Costs.{HaveRows, cost, estimate, join_operators, merge_operators}
-use Rattle.plan_tree.specs.Paths.{Path, startup_kept}
+use Rattle.plan_tree.specs.Costs.{cost, estimate, join_operators, merge_operators}
+use Rattle.plan_tree.specs.work.Costs.{HaveRows}
+use Rattle.plan_tree.specs.Paths.{startup_kept}
+use Rattle.plan_tree.specs.work.Paths.{Path}
 use Rattle.plan_tree.specs.Plans.{Plan, seq, index, index_only, bitmap, sort, nest, merge, set_of}
-use Rattle.plan_tree.specs.Views.{path}
+use Rattle.plan_tree.specs.work.Views.{path}
 use Rattle.plan_tree.specs.declared.path.Path.{Path as Costed}
 use Rattle.plan_tree.proofs.BoundLemmas.{sort-most, startup-most}
 use Rattle.plan_tree.proofs.WindowLemmas.{kept-least}
-use Rattle.join_search.specs.Tables.{none}
-use Rattle.join_search.specs.Joins.{IsPathAt, IsPlanIn, IsSideIn}
-use Rattle.join_search.specs.Merges.{IsNoCheaper}
-use Rattle.join_search.specs.Offers.{AreMergesServed, AreNestsServed}
-use Rattle.join_search.specs.Sufficing.{AreWholeRows, floor_in}
+use Rattle.join_search.specs.work.Tables.{none}
+use Rattle.join_search.specs.work.Joins.{IsPathAt, IsPlanIn, IsSideIn}
+use Rattle.join_search.specs.work.Merges.{IsNoCheaper}
+use Rattle.join_search.specs.work.Offers.{AreMergesServed, AreNestsServed}
+use Rattle.join_search.specs.work.Sufficing.{AreWholeRows, floor_in}
 use Rattle.join_search.specs.declared.useful.Asked.{Asked}
 use Rattle.join_search.proofs.OfferLemmas.{floor-below}
 use Rattle.join_search.proofs.PlanLemmas.{at-none, at-set, whole-rows}

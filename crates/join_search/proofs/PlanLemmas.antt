@@ -13,13 +13,13 @@ use Rattle.sql_query.specs.Queries.{Query}
 use Rattle.path_cost.specs.Estimates.{set_rows}
 use Rattle.plan_tree.specs.Plans.{Plan, seq, index, index_only, bitmap, sort, nest, merge, given_scan, param_of, set_of}
 use Rattle.plan_tree.specs.Costs.{estimate, rows_given}
-use Rattle.plan_tree.specs.Paths.{Path}
+use Rattle.plan_tree.specs.work.Paths.{Path}
 use Rattle.plan_tree.specs.Space.{IsEmpty, IsSameSet}
 use Rattle.plan_tree.proofs.LikeLemmas.{given-like}
-use Rattle.join_search.specs.Tables.{Fronts, none}
-use Rattle.join_search.specs.Joins.{ArePlaced, AreJoinsCovered, IsKept, IsPathAt, IsPlanIn, IsSideIn, IsSideKept}
-use Rattle.join_search.specs.Offers.{AreJoinsServed}
-use Rattle.join_search.specs.Splits.{IsDivided}
+use Rattle.join_search.specs.work.Tables.{Fronts, none}
+use Rattle.join_search.specs.work.Joins.{ArePlaced, AreJoinsCovered, IsKept, IsPathAt, IsPlanIn, IsSideIn, IsSideKept}
+use Rattle.join_search.specs.work.Offers.{AreJoinsServed}
+use Rattle.join_search.specs.work.Splits.{IsDivided}
 use Rattle.join_search.specs.declared.useful.Asked.{Asked}
 use Rattle.join_search.proofs.TableLemmas.{same-number}
 use Rattle.plan_tree.proofs.SetLemmas.{reads-some}

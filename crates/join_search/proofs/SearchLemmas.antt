@@ -5,26 +5,26 @@ use Rattle.std.proofs.lemmas.Bool.{eq-eqb, eqb-true, true≢false}
 use Rattle.std.proofs.lemmas.Bool.Decides.{nat_tests}
 use Rattle.std.proofs.lemmas.List.Elements.{All-contains, All-contains_itself, All-head, All-map, All-nil, All-tail, All-weaker}
 use Rattle.std.proofs.lemmas.List.Kept.{AllPairs-cons}
-use Rattle.pareto.specs.Front as pareto
-use Rattle.pareto.specs.Front.{Unrelated}
+use Rattle.pareto.specs.work.Front as pareto
+use Rattle.pareto.specs.work.Front.{Unrelated}
 use Rattle.pg_base.specs.declared.rel_set.RelSet.{RelSet}
 use Rattle.catalog.specs.Contents.{Contents}
 use Rattle.sql_query.specs.Queries.{Query, width}
 use Rattle.plan_tree.specs.Plans.{Plan, seq, index, index_only, bitmap, sort, nest, merge}
-use Rattle.plan_tree.specs.Fronts.{StayDominated}
+use Rattle.plan_tree.specs.work.Fronts.{StayDominated}
 use Rattle.plan_tree.specs.Least.{Dominates}
-use Rattle.plan_tree.specs.Paths.{Path, IsPathOf}
-use Rattle.plan_tree.specs.Views.{is_path_at_most, path}
+use Rattle.plan_tree.specs.work.Paths.{Path, IsPathOf}
+use Rattle.plan_tree.specs.work.Views.{is_path_at_most, path}
 use Rattle.plan_tree.specs.declared.path.Path.{Path as Costed}
 use Rattle.plan_tree.proofs.AtMostLemmas.{dominates-at-most}
 use Rattle.plan_tree.proofs.FrontLemmas.{contains-mapped, contains-source, still-dominated}
 use Rattle.plan_tree.proofs.PathLemmas.{built-below}
-use Rattle.join_search.specs.Tables.{Fronts, IsSamePlace, front_at, none, paths_at, paths_of}
-use Rattle.join_search.specs.Joins.{AreUndominated, IsBase, AreJoinsCovered, IsJoinOfKept, IsJoinPath, IsKept, IsPathAt, IsSideKept, IsSingle}
-use Rattle.join_search.specs.Offers.{AreJoinsServed, AreMergesServed, AreNestsServed}
-use Rattle.join_search.specs.Search.{IsDone}
-use Rattle.join_search.specs.Splits.{IsDivided}
-use Rattle.join_search.specs.Sufficing.{StaySufficient}
+use Rattle.join_search.specs.work.Tables.{Fronts, IsSamePlace, front_at, none, paths_at, paths_of}
+use Rattle.join_search.specs.work.Joins.{AreUndominated, IsBase, AreJoinsCovered, IsJoinOfKept, IsJoinPath, IsKept, IsPathAt, IsSideKept, IsSingle}
+use Rattle.join_search.specs.work.Offers.{AreJoinsServed, AreMergesServed, AreNestsServed}
+use Rattle.join_search.specs.work.Search.{IsDone}
+use Rattle.join_search.specs.work.Splits.{IsDivided}
+use Rattle.join_search.specs.work.Sufficing.{StaySufficient}
 use Rattle.join_search.specs.declared.useful.Asked.{Asked}
 use Rattle.join_search.specs.declared.table.Table.{Table}
 use Rattle.join_search.proofs.ItemLemmas.{not-contained, plan-of-none, side-of-none}

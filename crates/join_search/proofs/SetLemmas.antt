@@ -8,9 +8,9 @@ use Rattle.std.specs.Int.{trailing_zeros}
 use Rattle.pg_base.specs.Sets.{has}
 use Rattle.pg_base.proofs.SetLaws.{has-and, has-one_wide, has-zero, none-zero, same_set}
 use Rattle.pg_base.specs.declared.rel_set.RelSet.{RelSet}
-use Rattle.join_search.specs.Joins.{IsSingle}
-use Rattle.join_search.specs.Splits.{IsDivided}
-use Rattle.join_search.specs.Tables.{set_numbered}
+use Rattle.join_search.specs.work.Joins.{IsSingle}
+use Rattle.join_search.specs.work.Splits.{IsDivided}
+use Rattle.join_search.specs.work.Tables.{set_numbered}
 
 rest-bool : (x a b : Bool) → x ≡ a || b → (a ≡ true → b ≡ false) → b ≡ x && not a
 rest-bool true true b e h = h refl

@@ -8,11 +8,11 @@ use Rattle.std.proofs.lemmas.Bool.Decides.{nat_tests}
 use Rattle.std.proofs.lemmas.List.{length-append, map-append}
 use Rattle.std.proofs.lemmas.List.Elements.{All-head, All-tail, Contains-append_right}
 use Rattle.pg_base.specs.declared.rel_set.RelSet.{RelSet}
-use Rattle.plan_tree.specs.Views.{path}
+use Rattle.plan_tree.specs.work.Views.{path}
 use Rattle.plan_tree.specs.declared.path.Path.{Path as Costed}
 use Rattle.join_search.specs.declared.table.Placed.{Placed}
-use Rattle.join_search.specs.Joins.{IsSingle}
-use Rattle.join_search.specs.Tables.{IsSamePlace, found_at, is_at, list_at, set_numbered, params_of, paths_of, with_front}
+use Rattle.join_search.specs.work.Joins.{IsSingle}
+use Rattle.join_search.specs.work.Tables.{IsSamePlace, found_at, is_at, list_at, set_numbered, params_of, paths_of, with_front}
 
 pub same-number : (a b : RelSet) → a.0 ≡ b.0 → a ≡ b
 same-number a b e = ap (λ (n : ℕ). let s : RelSet = record { 0 = n } in s) e

@@ -6,19 +6,19 @@ use Rattle.pg_base.specs.Sets.{has}
 use Rattle.pg_base.proofs.SetLaws.{has-zero, none-zero, same_set}
 use Rattle.pg_base.specs.declared.numbers.RelNo.{RelNo}
 use Rattle.pg_base.specs.declared.rel_set.RelSet.{RelSet}
-use Rattle.pg_expr.specs.AtomSets.{contains}
+use Rattle.pg_expr.specs.work.AtomSets.{contains}
 use Rattle.catalog.specs.Contents.{Contents}
 use Rattle.eq_classes.specs.Clauses.{ClassTable, one}
 use Rattle.eq_classes.specs.Listing.{clause_at}
 use Rattle.eq_classes.specs.Parts.{is_join, is_join_param}
 use Rattle.sql_query.specs.Queries.{Query, width}
-use Rattle.plan_tree.specs.Paths.{Path}
+use Rattle.plan_tree.specs.work.Paths.{Path}
 use Rattle.plan_tree.specs.Plans.{Plan, seq, index, index_only, bitmap, sort, nest, merge, GivenScan, given_scan, is_empty, joins_with, param_in, param_of, set_of}
-use Rattle.plan_tree.specs.Reads.{IsOverTables}
+use Rattle.plan_tree.specs.work.Reads.{IsOverTables}
 use Rattle.plan_tree.specs.Space.{IsSameSet}
 use Rattle.plan_tree.proofs.PathLemmas.{built-below}
 use Rattle.plan_tree.proofs.GivenLemmas.{read-below}
-use Rattle.join_search.specs.Nests.{AreTested, IsInner}
+use Rattle.join_search.specs.work.Nests.{AreTested, IsInner}
 use Rattle.join_search.specs.declared.splits.Split.{Split}
 use Rattle.join_search.proofs.PlanLemmas.{at-param, at-set}
 use Rattle.plan_tree.proofs.GivenLemmas.{given-none, given-one}

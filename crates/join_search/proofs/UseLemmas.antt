@@ -13,12 +13,12 @@ use Rattle.eq_classes.specs.Clauses.{Set}
 use Rattle.eq_classes.specs.Listing.{class_at}
 use Rattle.eq_classes.specs.Parts.{has_in}
 use Rattle.eq_classes.specs.declared.classes.ClassNo.{ClassNo}
-use Rattle.pathkeys.specs.Finding.{class_numbers}
+use Rattle.pathkeys.specs.work.Finding.{class_numbers}
 use Rattle.pathkeys.specs.Keys.{AreDifferent, Keys, covers, order_keys}
 use Rattle.sql_query.specs.Queries.{Query}
 use Rattle.plan_tree.specs.Space.{IsSameSet}
-use Rattle.plan_laws.specs.Useful.{are_open, is_open, outside}
-use Rattle.join_search.specs.Sufficing.{IsPartOfUse}
+use Rattle.plan_laws.specs.work.Useful.{are_open, is_open, outside}
+use Rattle.join_search.specs.work.Sufficing.{IsPartOfUse}
 use Rattle.join_search.specs.declared.useful.Asked.{Asked}
 use Rattle.plan_tree.proofs.SetLemmas.{sets-same}
 use Rattle.plan_tree.proofs.PlaceLemmas.{number-at}

@@ -2,16 +2,16 @@
 
 ghost use Rattle.std.specs.Prelude.{◌≡◌, ◌<◌, ◌≤◌, ◌⊎◌, ◌+◌, ◌^◌, All, Contains, IfOk, IsTrue, OnOk, [], false, map};
 ghost use Rattle.pg_base.specs.declared.rel_set.RelSet as sets;
-ghost use Rattle.cost_rules.specs.Costs.{IsEstimate};
-ghost use Rattle.plan_tree.specs.Reads.{IsOverTables};
-ghost use Rattle.plan_tree.specs.Views.{path};
-ghost use Rattle.pareto.specs.Front.{AreKeptOr};
-ghost use Rattle.join_search.specs.Joins.{AreAllCovered, ArePlaced, HasNoDominatedJoins, HasOnlyJoins, HaveSameScans, IsBase, IsPathAt};
-ghost use Rattle.join_search.specs.Offers.{AreTargetServed, IsPartServed, Takes, TargetTakes};
-ghost use Rattle.join_search.specs.Splits.{HasEachFilled, AreJoinsOf, AreTargetJoins, AreTargetPaths, IsDivided, IsOver, IsTarget, IsTask};
-ghost use Rattle.join_search.specs.Tables.{none, paths_at};
-ghost use Rattle.join_search.specs.Search.{DoesNext, IsDoneTo};
-ghost use Rattle.join_search.specs.Outcomes.{AreTargetUndominated, AreTaskJoins, AreTaskUndominated, HasSufficientFor, IsSetServed, IsTargetServed, LacksJoins, ServesJoins, StaysDominated, StaysEnough, set_rows_of};
+ghost use Rattle.cost_rules.specs.work.Costs.{IsEstimate};
+ghost use Rattle.plan_tree.specs.work.Reads.{IsOverTables};
+ghost use Rattle.plan_tree.specs.work.Views.{path};
+ghost use Rattle.pareto.specs.work.Front.{AreKeptOr};
+ghost use Rattle.join_search.specs.work.Joins.{AreAllCovered, ArePlaced, HasNoDominatedJoins, HasOnlyJoins, HaveSameScans, IsBase, IsPathAt};
+ghost use Rattle.join_search.specs.work.Offers.{AreTargetServed, IsPartServed, Takes, TargetTakes};
+ghost use Rattle.join_search.specs.work.Splits.{HasEachFilled, AreJoinsOf, AreTargetJoins, AreTargetPaths, IsDivided, IsOver, IsTarget, IsTask};
+ghost use Rattle.join_search.specs.work.Tables.{none, paths_at};
+ghost use Rattle.join_search.specs.work.Search.{DoesNext, IsDoneTo};
+ghost use Rattle.join_search.specs.work.Outcomes.{AreTargetUndominated, AreTaskJoins, AreTaskUndominated, HasSufficientFor, IsSetServed, IsTargetServed, LacksJoins, ServesJoins, StaysDominated, StaysEnough, set_rows_of};
 
 use crate::merges::offer_merges;
 use crate::nests::offer_nests;

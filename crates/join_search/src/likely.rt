@@ -3,13 +3,13 @@
 
 ghost use Rattle.std.specs.Prelude.{◌<◌, IfOk, map};
 ghost use Rattle.pg_base.specs.Sets.{has};
-ghost use Rattle.plan_tree.specs.Reads.{IsOverTables};
-ghost use Rattle.plan_tree.specs.Views.{path};
-ghost use Rattle.join_search.specs.Joins.{ArePlaced, HaveSameScans};
-ghost use Rattle.join_search.specs.Splits.{AreTargetPaths, IsTarget, IsTask};
-ghost use Rattle.join_search.specs.Tables.{paths_at};
+ghost use Rattle.plan_tree.specs.work.Reads.{IsOverTables};
+ghost use Rattle.plan_tree.specs.work.Views.{path};
+ghost use Rattle.join_search.specs.work.Joins.{ArePlaced, HaveSameScans};
+ghost use Rattle.join_search.specs.work.Splits.{AreTargetPaths, IsTarget, IsTask};
+ghost use Rattle.join_search.specs.work.Tables.{paths_at};
 ghost use Rattle.std.specs.Prelude.{◌≡◌};
-ghost use Rattle.join_search.specs.Outcomes.{AreTaskPaths};
+ghost use Rattle.join_search.specs.work.Outcomes.{AreTaskPaths};
 
 use crate::by_sets::{front_of, offer_side};
 use crate::offers::least_cost;

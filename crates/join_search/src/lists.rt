@@ -3,10 +3,10 @@
 ghost use Rattle.std.specs.Prelude.{◌≡◌, ◌++◌, ◌∷◌, [], All, IfOk, OnOk, false, nat_eq};
 ghost use Rattle.std.specs.List.{list_any};
 ghost use Rattle.pg_base.specs.Sets.{has};
-ghost use Rattle.pathkeys.specs.Finding.{class_numbers};
+ghost use Rattle.pathkeys.specs.work.Finding.{class_numbers};
 ghost use Rattle.plan_tree.specs.Space.{IsMergeList};
-ghost use Rattle.join_search.specs.Merges.{lists_of, longer};
-ghost use Rattle.join_search.specs.Outcomes.{HasEachMergeList, all_longer_by, first_four_joining, longer_by, numbers_with};
+ghost use Rattle.join_search.specs.work.Merges.{lists_of, longer};
+ghost use Rattle.join_search.specs.work.Outcomes.{HasEachMergeList, all_longer_by, first_four_joining, longer_by, numbers_with};
 
 use catalog::Catalog;
 use eq_classes::ClassNo;

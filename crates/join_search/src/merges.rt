@@ -2,16 +2,17 @@
 //! match_unsorted_outer).
 
 ghost use Rattle.std.specs.Prelude.{◌≡◌, ◌≤◌, All, Contains, IfOk, IsTrue, OnOk, map};
-ghost use Rattle.cost_rules.specs.Costs.{IsEstimate};
+ghost use Rattle.cost_rules.specs.work.Costs.{IsEstimate};
 ghost use Rattle.pathkeys.specs.Keys as keys;
-ghost use Rattle.plan_tree.specs.Views.{path, plan};
-ghost use Rattle.join_search.specs.Joins.{IsPathAt};
-ghost use Rattle.join_search.specs.Merges.{ArePast, IsNoCheaper, IsInnerSide, IsListOf, IsMergeWork, IsOuterSide, ServesEarlyPlain, ServesEarlySides, side_path};
-ghost use Rattle.join_search.specs.Merges as merges;
-ghost use Rattle.join_search.specs.Offers.{ServesMerges, Takes};
-ghost use Rattle.join_search.specs.Splits.{AreJoinsOf, IsOuterOf, IsOver, inners_of, outers_of};
-ghost use Rattle.join_search.specs.Tables.{none};
-ghost use Rattle.join_search.specs.Outcomes.{IsKeptOfMerge, NeedsNoMerges, ServesIfEarly, ServesInOrder, ServesMerge, ServesPlainSide, ServesSide, ServesSortIfEarly, ServesSortedSide};
+ghost use Rattle.pathkeys.specs.work.Keys as keys_work;
+ghost use Rattle.plan_tree.specs.work.Views.{path, plan};
+ghost use Rattle.join_search.specs.work.Joins.{IsPathAt};
+ghost use Rattle.join_search.specs.work.Merges.{ArePast, IsNoCheaper, IsInnerSide, IsListOf, IsMergeWork, IsOuterSide, ServesEarlyPlain, ServesEarlySides, side_path};
+ghost use Rattle.join_search.specs.work.Merges as merges;
+ghost use Rattle.join_search.specs.work.Offers.{ServesMerges, Takes};
+ghost use Rattle.join_search.specs.work.Splits.{AreJoinsOf, IsOuterOf, IsOver, inners_of, outers_of};
+ghost use Rattle.join_search.specs.work.Tables.{none};
+ghost use Rattle.join_search.specs.work.Outcomes.{IsKeptOfMerge, NeedsNoMerges, ServesIfEarly, ServesInOrder, ServesMerge, ServesPlainSide, ServesSide, ServesSortIfEarly, ServesSortedSide};
 
 use crate::lists::merge_lists;
 use crate::offers::{cheapest, is_passed_over, least_cost, offer_join};

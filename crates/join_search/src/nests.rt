@@ -4,15 +4,16 @@ ghost use Rattle.std.specs.Prelude.{◌≡◌, Contains, IfOk, IsTrue, List, OnO
 ghost use Rattle.pg_base.specs.Sets.{has};
 ghost use Rattle.eq_classes.specs.Holding.{IsWithin};
 ghost use Rattle.plan_tree.specs.Paths as kept;
+ghost use Rattle.plan_tree.specs.work.Paths as kept_work;
 ghost use Rattle.plan_tree.specs.Plans as plans;
-ghost use Rattle.plan_tree.specs.Views.{path, plan};
-ghost use Rattle.join_search.specs.Joins.{IsKept};
-ghost use Rattle.join_search.specs.Nests.{AreTested, IsInnerOf, nest_operators};
-ghost use Rattle.join_search.specs.Offers.{ServesEach, ServesEarly, ServesNests, Takes};
-ghost use Rattle.join_search.specs.Splits.{AreJoinsOf, IsOuterOf, IsOver, inners_of, outers_of};
-ghost use Rattle.join_search.specs.Tables.{paths_at};
+ghost use Rattle.plan_tree.specs.work.Views.{path, plan};
+ghost use Rattle.join_search.specs.work.Joins.{IsKept};
+ghost use Rattle.join_search.specs.work.Nests.{AreTested, IsInnerOf, nest_operators};
+ghost use Rattle.join_search.specs.work.Offers.{ServesEach, ServesEarly, ServesNests, Takes};
+ghost use Rattle.join_search.specs.work.Splits.{AreJoinsOf, IsOuterOf, IsOver, inners_of, outers_of};
+ghost use Rattle.join_search.specs.work.Tables.{paths_at};
 ghost use Rattle.pg_base.specs.declared.rel_set.RelSet as sets;
-ghost use Rattle.join_search.specs.Outcomes.{IsKeptOfNest, ServesEachIfEarly, ServesNest};
+ghost use Rattle.join_search.specs.work.Outcomes.{IsKeptOfNest, ServesEachIfEarly, ServesNest};
 
 use crate::merges::{are_past, least_of};
 use crate::offers::{cheapest, is_passed_over, offer_join};
@@ -196,7 +197,7 @@ fn offer_early(
 fn are_nests_past(j: &Split, p: RelSet, inners: &[Path]) -> bool
     requires over { IsOver j.now }
     requires inners { map path inners.now ≡ inners_of j.now p }
-    ensures { IsTrue result → (front : List kept.Path) → ServesNests j.now front p }
+    ensures { IsTrue result → (front : List kept_work.Path) → ServesNests j.now front p }
 {
     let outer = least_of(j.outers);
     let inner = least_of(inners);

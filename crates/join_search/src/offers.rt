@@ -3,11 +3,11 @@
 ghost use Rattle.std.specs.Prelude.{◌≡◌, ◌<◌, ◌≤◌, All, Contains, IfNone, IfOk, IfSome, IsTrue, OnOk, [], false, length, map};
 ghost use Rattle.cost_rules.specs.declared.parameters.TheConstants.{MOST_COST};
 ghost use Rattle.plan_tree.specs.Keys.{keys_of};
-ghost use Rattle.plan_tree.specs.Views.{path, plan};
-ghost use Rattle.join_search.specs.Joins.{IsPathAt};
-ghost use Rattle.join_search.specs.Splits.{ArePathsOfSet, IsJoinOf, IsOver, kept_of};
-ghost use Rattle.join_search.specs.Tables.{none};
-ghost use Rattle.join_search.specs.Outcomes.{FrontHasDominating, MayPassOver, TakesOne};
+ghost use Rattle.plan_tree.specs.work.Views.{path, plan};
+ghost use Rattle.join_search.specs.work.Joins.{IsPathAt};
+ghost use Rattle.join_search.specs.work.Splits.{ArePathsOfSet, IsJoinOf, IsOver, kept_of};
+ghost use Rattle.join_search.specs.work.Tables.{none};
+ghost use Rattle.join_search.specs.work.Outcomes.{FrontHasDominating, MayPassOver, TakesOne};
 
 use crate::splits::Split;
 use crate::useful::{is_below, useful};

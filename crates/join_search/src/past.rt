@@ -1,12 +1,12 @@
 //! Joins that are past the limit of a search, as what their sides cost at least tells (own).
 
 ghost use Rattle.std.specs.Prelude.{◌≡◌, ◌≤◌, ◌*◌, IfOk, IsTrue, false, map};
-ghost use Rattle.cost_rules.specs.Costs.{IsEstimate};
-ghost use Rattle.plan_tree.specs.Views.{path};
-ghost use Rattle.join_search.specs.Joins.{ArePlaced};
-ghost use Rattle.join_search.specs.Splits.{IsTask};
-ghost use Rattle.join_search.specs.Tables.{none, paths_at};
-ghost use Rattle.join_search.specs.Outcomes.{AreSumsPast, HasNoMergeList, NeedsNoJoins, NeedsNoNests, NeedsNoNestsAt, set_rows_of};
+ghost use Rattle.cost_rules.specs.work.Costs.{IsEstimate};
+ghost use Rattle.plan_tree.specs.work.Views.{path};
+ghost use Rattle.join_search.specs.work.Joins.{ArePlaced};
+ghost use Rattle.join_search.specs.work.Splits.{IsTask};
+ghost use Rattle.join_search.specs.work.Tables.{none, paths_at};
+ghost use Rattle.join_search.specs.work.Outcomes.{AreSumsPast, HasNoMergeList, NeedsNoJoins, NeedsNoNests, NeedsNoNestsAt, set_rows_of};
 
 use crate::lists::merge_lists;
 use crate::merges::least_of;

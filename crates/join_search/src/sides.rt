@@ -2,15 +2,15 @@
 
 ghost use Rattle.std.specs.Prelude.{◌≡◌, ◌≤◌, ◌<◌, All, Contains, IfNone, IfOk, IfSome, [], false, map, true};
 ghost use Rattle.pg_base.specs.Sets.{has};
-ghost use Rattle.cost_rules.specs.Costs.{IsCost, IsEstimate};
+ghost use Rattle.cost_rules.specs.work.Costs.{IsCost, IsEstimate};
 ghost use Rattle.cost_rules.specs.declared.parameters.TheConstants.{MOST_COST};
 ghost use Rattle.path_cost.specs.Estimates.{set_rows};
-ghost use Rattle.plan_tree.specs.Views.{path, plan};
-ghost use Rattle.join_search.specs.Joins.{IsPathAt};
-ghost use Rattle.join_search.specs.Merges as merges;
-ghost use Rattle.join_search.specs.Merges.{IsCheapestBy, side_keys, side_path, side_plan};
-ghost use Rattle.join_search.specs.Tables.{none};
-ghost use Rattle.join_search.specs.Outcomes.{HasNoneBy, IsBestSideOf, IsLeastBy, IsSideCost, IsSideWith};
+ghost use Rattle.plan_tree.specs.work.Views.{path, plan};
+ghost use Rattle.join_search.specs.work.Joins.{IsPathAt};
+ghost use Rattle.join_search.specs.work.Merges as merges;
+ghost use Rattle.join_search.specs.work.Merges.{IsCheapestBy, side_keys, side_path, side_plan};
+ghost use Rattle.join_search.specs.work.Tables.{none};
+ghost use Rattle.join_search.specs.work.Outcomes.{HasNoneBy, IsBestSideOf, IsLeastBy, IsSideCost, IsSideWith};
 
 use crate::offers::cheapest;
 use catalog::Catalog;

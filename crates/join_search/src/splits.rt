@@ -2,17 +2,19 @@
 
 ghost use Rattle.std.specs.Prelude.{◌≡◌, ◌<◌, ◌≤◌, ◌^◌, ◌↔◌, IsTrue, true};
 ghost use Rattle.pg_base.specs.Sets.{has};
-ghost use Rattle.cost_rules.specs.Costs.{IsEstimate};
+ghost use Rattle.cost_rules.specs.work.Costs.{IsEstimate};
 ghost use Rattle.path_cost.specs.Estimates as numbers;
+ghost use Rattle.path_cost.specs.work.Estimates as numbers_work;
 ghost use Rattle.plan_tree.specs.Costs as costs;
-ghost use Rattle.plan_tree.specs.Paths.{IsPathOf};
-ghost use Rattle.plan_tree.specs.Reads.{IsOverTables};
+ghost use Rattle.plan_tree.specs.work.Costs as costs_work;
+ghost use Rattle.plan_tree.specs.work.Paths.{IsPathOf};
+ghost use Rattle.plan_tree.specs.work.Reads.{IsOverTables};
 ghost use Rattle.plan_tree.specs.Space.{IsSameSet};
-ghost use Rattle.plan_tree.specs.Views.{path};
+ghost use Rattle.plan_tree.specs.work.Views.{path};
 ghost use Rattle.sql_query.specs.Queries.{all_of_query, width};
-ghost use Rattle.join_search.specs.Joins.{IsSingle};
-ghost use Rattle.join_search.specs.Splits.{HasSome};
-ghost use Rattle.join_search.specs.Sufficing.{AreWholeRows};
+ghost use Rattle.join_search.specs.work.Joins.{IsSingle};
+ghost use Rattle.join_search.specs.work.Splits.{HasSome};
+ghost use Rattle.join_search.specs.work.Sufficing.{AreWholeRows};
 
 use crate::table::Table;
 use crate::useful::Asked;

@@ -4,9 +4,9 @@
 ghost use Rattle.std.specs.Prelude.{◌≡◌, ◌<◌, ◌↔◌, ◌⊎◌, ℕ, Bool, IfErr, IfNone, IfOk, IfSome, IsTrue, None, OnOk, [], Some, get_or, length, map};
 ghost use Rattle.std.specs.Option.{option_map};
 ghost use Rattle.pg_base.specs.declared.rel_set.RelSet as sets;
-ghost use Rattle.plan_tree.specs.Views.{path};
-ghost use Rattle.join_search.specs.Joins.{HasOnlyScans, HaveSameScans, IsSingle, KeepsScans};
-ghost use Rattle.join_search.specs.Tables.{ChangesOnlyFront, ChangesOnlyParam, IsOfNoOther, IsPlaceOf, KeepsFront, found_at, front_at, is_at, list_at, params_of, paths_at, paths_of, places_at, set_numbered};
+ghost use Rattle.plan_tree.specs.work.Views.{path};
+ghost use Rattle.join_search.specs.work.Joins.{HasOnlyScans, HaveSameScans, IsSingle, KeepsScans};
+ghost use Rattle.join_search.specs.work.Tables.{ChangesOnlyFront, ChangesOnlyParam, IsOfNoOther, IsPlaceOf, KeepsFront, found_at, front_at, is_at, list_at, params_of, paths_at, paths_of, places_at, set_numbered};
 
 use pareto::Front;
 use pg_base::{Memory, RelSet};

@@ -4,14 +4,17 @@
 ghost use Rattle.std.specs.Prelude.{◌≡◌, ◌<◌, ◌≤◌, ◌&&◌, All, IfOk, IsTrue, false, length, nat_lt, take};
 ghost use Rattle.pg_base.specs.Sets.{has};
 ghost use Rattle.cost_rules.specs.Costs as costs;
-ghost use Rattle.cost_rules.specs.Costs.{IsEstimate};
+ghost use Rattle.cost_rules.specs.work.Costs as costs_work;
+ghost use Rattle.cost_rules.specs.work.Costs.{IsEstimate};
 ghost use Rattle.cost_rules.specs.declared.parameters.TheConstants.{MOST_COST};
 ghost use Rattle.eq_classes.specs.Listing.{class_at};
 ghost use Rattle.eq_classes.specs.Parts.{has_in};
-ghost use Rattle.pathkeys.specs.Finding.{class_numbers};
+ghost use Rattle.pathkeys.specs.work.Finding.{class_numbers};
 ghost use Rattle.pathkeys.specs.Keys as keys;
+ghost use Rattle.pathkeys.specs.work.Keys as keys_work;
 ghost use Rattle.plan_tree.specs.Costs as plans;
-ghost use Rattle.join_search.specs.Sufficing.{BeginsWithOpen, IsCostPast, IsPartOutside, floor_in};
+ghost use Rattle.plan_tree.specs.work.Costs as plans_work;
+ghost use Rattle.join_search.specs.work.Sufficing.{BeginsWithOpen, IsCostPast, IsPartOutside, floor_in};
 
 use cost_rules::{MOST_COST, Pair, price};
 use eq_classes::ClassNo;

@@ -4,9 +4,9 @@ use Rattle.std.specs.Prelude.{All, Contains, IsTrue}
 use Rattle.std.proofs.lemmas.Bool.{cases_Bool, eq-eqb, eqb-true, false≢true}
 use Rattle.std.proofs.lemmas.List.{get_or-set_other, get_or-set_same, get_or_default, length-set}
 use Rattle.std.proofs.lemmas.List.Elements.{All-contains, All-contains_itself, All-from_get_or, All-push, All-set, All-weaker, Contains-append_left}
-use Rattle.pareto.specs.Front.{AreKeptOr, IsCovered}
-use Rattle.plan_tree.specs.Ranks.{at-most-refl, at-most-trans}
-use Rattle.plan_tree.specs.Views.{is_path_at_most, path}
+use Rattle.pareto.specs.work.Front.{AreKeptOr, IsCovered}
+use Rattle.plan_tree.specs.work.Ranks.{at-most-refl, at-most-trans}
+use Rattle.plan_tree.specs.work.Views.{is_path_at_most, path}
 use Rattle.plan_tree.specs.declared.path.Path.{Path as Costed}
 use Rattle.plan_tree.proofs.FrontLemmas.{keeps-itself}
 

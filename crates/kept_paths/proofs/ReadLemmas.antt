@@ -15,7 +15,7 @@ use Rattle.std.specs.Str.{bytes_eq}
 use Rattle.pathkeys.specs.Keys.{Keys, covers}
 use Rattle.pathkeys.proofs.CoveringLemmas.{covers-prefix, prefix-covers}
 use Rattle.cost_rules.specs.declared.pair.Pair.{Pair}
-use Rattle.kept_paths.specs.Bounds.{Bounds, early_at, early_in, is_first, is_told, is_within, known_at, least_in}
+use Rattle.kept_paths.specs.work.Bounds.{Bounds, early_at, early_in, is_first, is_told, is_within, known_at, least_in}
 use Rattle.kept_paths.specs.declared.bounds.Known.{Known}
 use Rattle.pg_base.proofs.OptionLemmas.{is-none}
 

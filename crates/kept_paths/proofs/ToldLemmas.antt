@@ -4,17 +4,17 @@ use Rattle.std.specs.Prelude.{All, Contains}
 use Rattle.std.proofs.lemmas.Bool.{and_from, and_parts, false≢true, or_cases, leb-true, or_right}
 use Rattle.std.proofs.lemmas.Grind.{common_steps}
 use Rattle.std.proofs.lemmas.List.Elements.{All-contains, All-map, All-weaker}
-use Rattle.pareto.specs.Front.{AreKeptOr, IsCovered}
+use Rattle.pareto.specs.work.Front.{AreKeptOr, IsCovered}
 use Rattle.pathkeys.specs.Keys.{Keys, covers}
 use Rattle.pathkeys.proofs.CoveringLemmas.{covers-trans}
-use Rattle.plan_tree.specs.Paths.{Path}
-use Rattle.plan_tree.specs.Ranks.{parts-of}
-use Rattle.plan_tree.specs.Views.{is_path_at_most, path}
+use Rattle.plan_tree.specs.work.Paths.{Path}
+use Rattle.plan_tree.specs.work.Ranks.{parts-of}
+use Rattle.plan_tree.specs.work.Views.{is_path_at_most, path}
 use Rattle.plan_tree.specs.declared.path.Path.{Path as Costed}
 use Rattle.plan_tree.proofs.FrontLemmas.{contains-mapped, contains-source}
 use Rattle.cost_rules.specs.Costs.{pair}
 use Rattle.cost_rules.specs.declared.pair.Pair.{Pair}
-use Rattle.kept_paths.specs.Bounds.{AreBounds, AreEarly, AreTold, Bounds, EarlierEach, IsBeaten, IsPreceded, KeepsEarly, beats, early_at, either_beats, is_first, is_told, is_within, least_at, pair_of}
+use Rattle.kept_paths.specs.work.Bounds.{AreBounds, AreEarly, AreTold, Bounds, EarlierEach, IsBeaten, IsPreceded, KeepsEarly, beats, early_at, either_beats, is_first, is_told, is_within, least_at, pair_of}
 
 no-more : (m n : ℕ) → m ≤ n → nat_le m n ≡ true
 no-more m n e = grind (arith, common_steps)

@@ -2,8 +2,8 @@
 
 ghost use Rattle.std.specs.Prelude.{◌≡◌, ◌||◌, ◌⊎◌, ℕ, IsSome, OnOk, take};
 ghost use Rattle.cost_rules.specs.declared.pair.Pair as pairs;
-ghost use Rattle.kept_paths.specs.Bounds.{ChangesOnlyList, EarlierAt, EarlierEach, IsEarlier, IsLowered, KeepsEarly, KeepsRooms, LowersAt, LowersEach, TellTheSame, either_beats, is_first, known_at};
-ghost use Rattle.kept_paths.specs.Bounds as bounds_of;
+ghost use Rattle.kept_paths.specs.work.Bounds.{ChangesOnlyList, EarlierAt, EarlierEach, IsEarlier, IsLowered, KeepsEarly, KeepsRooms, LowersAt, LowersEach, TellTheSame, either_beats, is_first, known_at};
+ghost use Rattle.kept_paths.specs.work.Bounds as bounds_of;
 
 use cost_rules::Pair;
 use pg_base::Memory;

@@ -1,10 +1,10 @@
 //! The paths that are kept of a set, with bounds that tell at one look that a path would not be kept.
 
 ghost use Rattle.std.specs.Prelude.{◌≡◌, ◌<◌, ◌↔◌, All, Contains, IfOk, IsTrue, OnErr, OnOk, [], get_or, length, map};
-ghost use Rattle.pareto.specs.Front as fronts;
-ghost use Rattle.pareto.specs.Front.{AreKeptOr};
-ghost use Rattle.plan_tree.specs.Views.{is_path_at_most, path};
-ghost use Rattle.kept_paths.specs.Bounds.{AreEarlyOf, AreToldOf, IsBeaten, TellsBeaten};
+ghost use Rattle.pareto.specs.work.Front as fronts;
+ghost use Rattle.pareto.specs.work.Front.{AreKeptOr};
+ghost use Rattle.plan_tree.specs.work.Views.{is_path_at_most, path};
+ghost use Rattle.kept_paths.specs.work.Bounds.{AreEarlyOf, AreToldOf, IsBeaten, TellsBeaten};
 
 use crate::bounds::{Bounds, add_rooms, is_beaten, lower_each, place_of};
 use cost_rules::Pair;
@@ -27,10 +27,10 @@ pub struct KeptPaths {
 impl Model for KeptPaths {
     ghost use Rattle.std.specs.Prelude.{List, map};
     ghost use Rattle.std.specs.Coded.{codes};
-    ghost use Rattle.plan_tree.specs.Views.{path};
+    ghost use Rattle.plan_tree.specs.work.Views.{path};
     ghost use Rattle.plan_tree.specs.contracts.plan.Plan as planned;
     ghost use Rattle.plan_tree.specs.declared.path.Path as costed;
-    ghost use Rattle.kept_paths.specs.Bounds.{AreBounds};
+    ghost use Rattle.kept_paths.specs.work.Bounds.{AreBounds};
 
     ghost Value = { List costed.Path };
 

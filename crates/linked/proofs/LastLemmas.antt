@@ -3,8 +3,8 @@ use Rattle.std.proofs.Common.{◌≡◌, ℕ, ◌+◌, ◌-◌, ◌<◌, Bool, t
 use Rattle.std.proofs.lemmas.Bool.{false≢true, eqb-true, eq-eqb}
 use Rattle.std.proofs.lemmas.List.{get_or-take, length-take-le}
 use Rattle.linked.specs.declared.nodes.Node.{Node}
-use Rattle.linked.specs.Lists.{has, list_of}
-use Rattle.linked.specs.Nodes.{lone, list_at, lists_of, Run, Stands, AreLinked}
+use Rattle.linked.specs.work.Lists.{has, list_of}
+use Rattle.linked.specs.work.Nodes.{lone, list_at, lists_of, Run, Stands, AreLinked}
 use Rattle.linked.proofs.RunLemmas.{found, stands, shared, apart, run, length_lists, list_is, at_below, same_list_of}
 
 -- one slot fewer

@@ -1,5 +1,5 @@
 -- What the table answers: each is a look-up among its rows.
-use Rattle.std.specs.Prelude.{ℕ, Bool, true, false, ◌&&◌, List, find, nat_eq, bytes_eq, option_map, option_and_then, is_some, flat_map, Option, None}
+use Rattle.std.specs.Prelude.{ℕ, Bool, ◌&&◌, List, find, nat_eq, bytes_eq, option_map, option_and_then, is_some, flat_map, Option}
 use Rattle.std.specs.List.{list_any}
 use Rattle.pg_value.specs.declared.operators.Family.{Family}
 use Rattle.pg_value.specs.declared.operators.Family.TheVariants as families
@@ -87,15 +87,6 @@ takes f t = list_any (λ row. nat_eq (family_place row.family) (family_place f) 
 abbrev pub number_in : Family → Method → Op → Option ℕ
 number_in f m op = option_map (λ member. member.strategy) (option_and_then (λ row. member_of op (members m row)) (family_row f))
 
--- a strategy number where a test holds, else none
-abbrev pub when : Bool → Option ℕ → Option ℕ
-when true o = o
-when false o = None
-
--- the strategy of an operator over two types in a family
-abbrev pub strategy_of : Family → Method → Op → SqlType → SqlType → Option ℕ
-strategy_of f m op l r = when (takes f l && takes f r) (number_in f m op)
-
 -- the family has the operator for the two types
 abbrev pub family_has : Family → Op → SqlType → SqlType → Bool
 family_has f op l r = takes f l && takes f r && is_some (number_in f Btree op)
@@ -120,14 +111,6 @@ classes = flat_map (λ row. row.classes) table
 -- the class of a name
 abbrev pub class_of_name : List ℕ → Option OpClass
 class_of_name name = option_map (λ listed. listed.class) (find (λ listed. bytes_eq listed.name name) classes)
-
--- what the table says of an operator class; each has one entry
-abbrev pub listed_class : OpClass → Option ClassRow
-listed_class c = find (λ listed. nat_eq (class_place listed.class) (class_place c)) classes
-
--- the type of the columns for which an operator class is (pg_opclass, opcintype)
-abbrev pub own_type_of : OpClass → Option SqlType
-own_type_of c = option_map (λ listed. listed.own_type) (listed_class c)
 
 -- the family whose row lists a class
 abbrev pub family_of : OpClass → Option Family

@@ -1,14 +1,12 @@
 -- The order of lists of index keys, and the entries of an index (PostgreSQL manual, chapter Indexes, Indexes and ORDER BY; equal keys in row order is own).
 use Rattle.std.specs.Prelude.{ℕ, List, [], ◌∷◌, Option, Some, None}
 use Rattle.std.specs.Ordering.{on, then_cmp, nat_cmp}
-use Rattle.std.specs.List.{AllZip}
 use Rattle.std.specs.declared.cmp.Ordering.{Ordering}
 use Rattle.std.specs.declared.cmp.Ordering.TheVariants.{Equal}
 use Rattle.pg_value.specs.declared.operators.Family.{Family}
 use Rattle.pg_value.specs.declared.operators.Family.TheVariants.{Integer}
 use Rattle.pg_value.specs.declared.value.Value.{Value}
 use Rattle.pg_value.specs.declared.value.Value.TheVariants.{Null}
-use Rattle.pg_value.specs.Order.{IsOfFamily}
 use Rattle.pg_value.specs.ColumnOrder.{column_order}
 use Rattle.opfamily.specs.declared.classes.IndexKey.{IndexKey}
 use Rattle.opfamily.specs.Answers.{family_of}
@@ -49,7 +47,3 @@ pub record IndexEntry : Type 0 where
 -- the order of entries: by the keys, then by the row number
 abbrev pub entry_order : List IndexKey → IndexEntry → IndexEntry → Ordering
 entry_order ks = then_cmp (on (λ (e : IndexEntry). e.keys) (key_values_order ks)) (on (λ (e : IndexEntry). e.row) nat_cmp)
-
--- one value for each key, NULL or of the kind that the key's family orders
-abbrev pub AreKeyValues : List IndexKey → List Value → Type 0
-AreKeyValues ks vs = AllZip (λ (k : IndexKey) v. IsOfFamily (key_family k) v) ks vs

@@ -1,15 +1,18 @@
 pub mod Table
 pub mod Answers
 pub mod KeyOrder
+pub mod work
 -- What callers name of the crates below.
 pub use Rattle.pg_base.proofs.SetLaws as pg_base_SetLaws
 pub use Rattle.pg_base.specs.Sets as pg_base_Sets
+pub use Rattle.pg_base.specs.work.Sets as pg_base_work_Sets
 pub use Rattle.pg_base.specs.declared.limits.TheConstants as pg_base_limits_TheConstants
 pub use Rattle.pg_base.specs.declared.numbers.RelNo as pg_base_numbers_RelNo
 pub use Rattle.pg_base.specs.declared.rel_set.RelSet as pg_base_rel_set_RelSet
 pub use Rattle.pg_value.proofs.OrderLaws as pg_value_OrderLaws
 pub use Rattle.pg_value.specs.ColumnOrder as pg_value_ColumnOrder
 pub use Rattle.pg_value.specs.Order as pg_value_Order
+pub use Rattle.pg_value.specs.work.Order as pg_value_work_Order
 pub use Rattle.pg_value.specs.Sorting as pg_value_Sorting
 pub use Rattle.pg_value.specs.Truths as pg_value_Truths
 pub use Rattle.pg_value.specs.Types as pg_value_Types

@@ -1,7 +1,8 @@
 //! Access methods and operator classes.
 
 ghost use Rattle.std.specs.Prelude.{◌≡◌, Some};
-ghost use Rattle.opfamily.specs.Answers.{accepted, class_of_name, default_class_of, default_family_of, family_of, own_type_of};
+ghost use Rattle.opfamily.specs.Answers.{accepted, class_of_name, default_class_of, default_family_of, family_of};
+ghost use Rattle.opfamily.specs.work.Answers.{own_type_of};
 
 use pg_base::ColNo;
 use pg_value::{Family, SqlType};

@@ -1,7 +1,8 @@
 //! Operators of a family by their strategies.
 
 ghost use Rattle.std.specs.Prelude.{◌≡◌};
-ghost use Rattle.opfamily.specs.Answers.{does_exist, family_has, number_in, some_family_has, strategy_of, takes};
+ghost use Rattle.opfamily.specs.Answers.{does_exist, family_has, number_in, some_family_has, takes};
+ghost use Rattle.opfamily.specs.work.Answers.{strategy_of};
 
 use crate::classes::Method;
 use pg_value::{Family, Op, SqlType};

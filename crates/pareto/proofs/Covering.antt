@@ -4,7 +4,7 @@ use Rattle.std.specs.List.{All, AllPairs, Contains, filter}
 use Rattle.std.proofs.lemmas.List.Elements.{All-contains, All-filter, All-weaker, All-contains_itself, Contains-push, Contains-push_cases, Contains-append_left, Contains-append_right, filter_passes}
 use Rattle.std.proofs.lemmas.List.Kept.{AllPairs-filter}
 use Rattle.std.proofs.lemmas.List.Quantifiers.{all_pairs_push}
-use Rattle.pareto.specs.Front.{IsCovered, AreKeptOr, Unrelated}
+use Rattle.pareto.specs.work.Front.{IsCovered, AreKeptOr, Unrelated}
 
 Contains-head : {T : Type 0} (y : T) (ys : List T) (x : T) → Contains (y ∷ ys) x → (y ≡ x) ⊎ Contains ys x
 Contains-head y ys x (zero, lt, e) = inl e

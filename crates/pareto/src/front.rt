@@ -2,7 +2,7 @@
 //! PostgreSQL's `add_path`, which keeps the paths that no other path dominates).
 
 ghost use Rattle.std.specs.Prelude.{◌≡◌, ◌≤◌, ◌∷◌, ◌++◌, [], not, false, IsTrue, IsOk, OnOk, IfErr, All, AllPairs, filter, vec_len, vec_capacity};
-ghost use Rattle.pareto.specs.Front.{IsCovered, AreKeptOr, Unrelated};
+ghost use Rattle.pareto.specs.work.Front.{IsCovered, AreKeptOr, Unrelated};
 
 use crate::ranked::Ranked;
 use std::alloc::Global;
@@ -16,7 +16,7 @@ pub struct Front<T: Ranked> {
 
 impl<T: Ranked> Model for Front<T> {
     ghost use Rattle.std.specs.Prelude.{List, AllPairs};
-    ghost use Rattle.pareto.specs.Front.{Unrelated};
+    ghost use Rattle.pareto.specs.work.Front.{Unrelated};
 
     ghost Value = { List T };
 

@@ -12,8 +12,9 @@ use Rattle.catalog.specs.Contents.{Contents, IsColumn, IsKnown, IsLawful, IsTabl
 use Rattle.catalog.specs.Indexes.{no_column}
 use Rattle.catalog.specs.Range.{Range, table_of, type_in}
 use Rattle.catalog.specs.Statistics.{Statistics, IsLawfulStatistics}
-use Rattle.path_cost.specs.Columns.{AreTables, is_column_in, stats_or}
-use Rattle.path_cost.specs.Known.{IsLawfulKnown, statistics_of}
+use Rattle.path_cost.specs.Columns.{stats_or}
+use Rattle.path_cost.specs.work.Columns.{AreTables, is_column_in}
+use Rattle.path_cost.specs.work.Known.{IsLawfulKnown, statistics_of}
 use Rattle.path_cost.specs.declared.known.Known.{Known}
 
 in-range : (a b n m : ℕ) → IsTrue (nat_lt a n && nat_lt b m) → (a < n) × (b < m)

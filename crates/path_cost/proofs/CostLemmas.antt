@@ -2,17 +2,19 @@
 use Rattle.std.proofs.Common.{◌≡◌, ◌<◌, ◌≤◌, ◌∙◌, ℕ, suc, ◌+◌, ◌-◌, ◌*◌, ◌^◌, ◌&&◌, ◌||◌, min, nat_lt, not, Bool, true, false, List, [], ◌∷◌, zero, refl, sym, ap, subst, arith, length, drop, inl, inr}
 use Rattle.std.proofs.lemmas.Grind.{common_steps}
 use Rattle.std.proofs.lemmas.Bool.{cases_lt}
-use Rattle.pg_expr.specs.AtomSets.{contains}
+use Rattle.pg_expr.specs.work.AtomSets.{contains}
 use Rattle.eq_classes.specs.Clauses.{Clause, Set}
 use Rattle.eq_classes.specs.Listing.{clause_at}
 use Rattle.eq_classes.specs.Parts.{is_base, is_param, is_local}
 use Rattle.pg_expr.specs.Columns.{atom_count}
-use Rattle.cost_rules.specs.Costs.{pair, capped, capped_pair, row_cost}
+use Rattle.cost_rules.specs.Costs.{pair, row_cost}
+use Rattle.cost_rules.specs.work.Costs.{capped, capped_pair}
 use Rattle.cost_rules.specs.Scans.{bitmap_scan_cost, fetch_cost, index_scan_cost, heap_pages_of, page_in_order, run_cost, seq_scan_cost}
 use Rattle.cost_rules.specs.declared.parameters.TheConstants.{MOST_COST, SEQUENTIAL_PAGE}
 use Rattle.cost_rules.proofs.RisingLemmas.{once-at_least}
 use Rattle.path_cost.specs.Costs.{operators}
-use Rattle.path_cost.specs.Estimates.{either, either_but, conditions_from, conditions_where}
+use Rattle.path_cost.specs.Estimates.{conditions_from, conditions_where}
+use Rattle.path_cost.specs.work.Estimates.{either, either_but}
 use Rattle.path_cost.proofs.KeptLemmas.{where_params, where-from, from-same, conditions-at}
 
 -- rows with operators past what a word holds

@@ -3,7 +3,7 @@ use Rattle.std.proofs.Common.{◌≡◌, ◌<◌, ◌≤◌, ◌∙◌, ℕ, suc
 use Rattle.std.proofs.lemmas.Grind.{common_steps}
 use Rattle.std.proofs.lemmas.List.{drop_more}
 use Rattle.std.specs.Prelude.{map, filter, fold, nat_lt, ◌&&◌, ◌||◌}
-use Rattle.pg_expr.specs.AtomSets.{contains}
+use Rattle.pg_expr.specs.work.AtomSets.{contains}
 use Rattle.eq_classes.specs.Parts.{is_all, is_base, is_join, is_param, is_local}
 use Rattle.pg_expr.specs.Cond.{Cond}
 use Rattle.catalog.specs.Contents.{Contents}
@@ -11,7 +11,8 @@ use Rattle.catalog.specs.Range.{Range}
 use Rattle.eq_classes.specs.Clauses.{Clause, ClassTable, Set}
 use Rattle.eq_classes.specs.Listing.{clause_at}
 use Rattle.exact_rows.specs.Rows.{share_kept}
-use Rattle.path_cost.specs.Estimates.{either, conditions_from, conditions_where, is_number_where, is_pair_of, set_numbers_from}
+use Rattle.path_cost.specs.Estimates.{conditions_from, conditions_where, is_number_where, is_pair_of, set_numbers_from}
+use Rattle.path_cost.specs.work.Estimates.{either}
 use Rattle.path_cost.specs.Selectivity.{weight, weights}
 use Rattle.path_cost.proofs.NumberLemmas.{numbers-at, numbers-same}
 

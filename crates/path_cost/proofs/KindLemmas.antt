@@ -9,7 +9,7 @@ use Rattle.pg_value.specs.Truths.{AreComparable, HasOp, IsSameKind, is_absolute}
 use Rattle.pg_value.specs.Types.{IsOfType}
 use Rattle.pg_expr.specs.Typed.{some_value}
 use Rattle.catalog.specs.Statistics.{Common}
-use Rattle.path_cost.specs.Known.{IsLawfulKnown, SuitsColumn}
+use Rattle.path_cost.specs.work.Known.{IsLawfulKnown, SuitsColumn}
 use Rattle.path_cost.specs.declared.known.Known.{Known}
 use Rattle.pg_expr.proofs.DefinedLaws.{like_type, same_kind-like}
 

@@ -9,9 +9,9 @@ use Rattle.cost_rules.specs.Powers.{clamped}
 use Rattle.cost_rules.proofs.RisingLemmas.{ceil-least}
 use Rattle.exact_rows.specs.Rows.{share_kept}
 use Rattle.exact_rows.specs.declared.digits.TheConstants.{BASE}
-use Rattle.path_cost.specs.Columns.{AreTables}
+use Rattle.path_cost.specs.work.Columns.{AreTables}
 use Rattle.path_cost.specs.Estimates.{kept}
-use Rattle.path_cost.specs.Limits.{HasColumns}
+use Rattle.path_cost.specs.work.Limits.{HasColumns}
 use Rattle.path_cost.specs.Selectivity.{weight, weights}
 use Rattle.path_cost.proofs.WeightLemmas.{weight-most}
 

@@ -9,7 +9,8 @@ use Rattle.catalog.specs.Range.{Range, table_of, type_in}
 use Rattle.catalog.specs.Statistics.{IsLawfulStatistics, Statistics}
 use Rattle.catalog.specs.Tables.{rows_by, rows_of}
 use Rattle.catalog.specs.declared.table.Sizes.{Sizes}
-use Rattle.path_cost.specs.Columns.{AreTables, is_column_in, known_statistics, stats_of, stats_or}
+use Rattle.path_cost.specs.Columns.{known_statistics, stats_of, stats_or}
+use Rattle.path_cost.specs.work.Columns.{AreTables, is_column_in}
 use Rattle.path_cost.proofs.ColumnLemmas.{column_laws, stats_lawful, unknown_lawful}
 
 -- a table has a row

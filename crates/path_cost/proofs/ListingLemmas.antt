@@ -10,15 +10,15 @@ use Rattle.pg_expr.specs.declared.operand.ColRef.{ColRef}
 use Rattle.pg_expr.specs.declared.expr.Expr.{Expr}
 use Rattle.pg_expr.specs.Cond.{Cond, const}
 use Rattle.pg_expr.specs.Typed.{AreTyped}
-use Rattle.pg_expr.specs.View as view
+use Rattle.pg_expr.specs.work.View as view
 use Rattle.catalog.specs.Contents.{Contents}
 use Rattle.catalog.specs.Range.{Range, type_in}
 use Rattle.eq_classes.specs.Classes.{listed}
 use Rattle.eq_classes.specs.Clauses.{Clause, ClassTable}
 use Rattle.eq_classes.specs.Listing.{clause_at}
 use Rattle.eq_classes.proofs.ConditionLemmas.{listed_conds}
-use Rattle.path_cost.specs.Columns.{IsOver}
-use Rattle.path_cost.specs.Limits.{HaveColumns}
+use Rattle.path_cost.specs.work.Columns.{IsOver}
+use Rattle.path_cost.specs.work.Limits.{HaveColumns}
 use Rattle.path_cost.specs.Ranges.{bound_of, listed_condition, conditions, has_bound, is_bound_at}
 use Rattle.path_cost.proofs.PartLemmas.{parts_over}
 

@@ -11,11 +11,11 @@ use Rattle.pg_expr.specs.declared.expr.Expr.TheFolds.{fold-roll-Expr, fold_out-E
 use Rattle.pg_expr.specs.Cond.{all_of}
 use Rattle.pg_expr.specs.Columns.{each_column, each_column_of}
 use Rattle.pg_expr.specs.Typed.{AreTyped}
-use Rattle.pg_expr.specs.View as view
+use Rattle.pg_expr.specs.work.View as view
 use Rattle.catalog.specs.Contents.{Contents}
 use Rattle.catalog.specs.Range.{Range}
 use Rattle.catalog.specs.Range.{type_in}
-use Rattle.path_cost.specs.Columns.{IsOver, is_column_in}
+use Rattle.path_cost.specs.work.Columns.{IsOver, is_column_in}
 
 -- what an AND of expressions stands for
 pub and-is : (parts : Exprs) → view.cond (And parts) ≡ all_of (view.conds parts.items.items)

@@ -17,7 +17,7 @@ use Rattle.catalog.specs.Contents.{Contents, IsIndex, IsLawful, index_at, no_ind
 use Rattle.catalog.specs.Indexes.{Index, IsConditionOf, IsPredicateOf, type_at}
 use Rattle.pg_expr.proofs.ColumnLaws.{weaker-each}
 use Rattle.catalog.specs.Range.{type_in}
-use Rattle.path_cost.specs.Columns.{is_column_in}
+use Rattle.path_cost.specs.work.Columns.{is_column_in}
 
 -- a condition whose columns have the same types is as well typed
 module _ (test : ColRef → Bool) (t u : ColRef → SqlType) (agree : (x : ColRef) → IsTrue (test x) → t x ≡ u x) where

@@ -4,7 +4,7 @@ use Rattle.catalog.specs.Contents.{Contents}
 use Rattle.catalog.specs.Range.{Range}
 use Rattle.eq_classes.specs.Clauses.{Set}
 use Rattle.cost_rules.proofs.RisingLemmas.{once-at_least}
-use Rattle.exact_rows.specs.Rows.{most_of}
+use Rattle.exact_rows.specs.work.Rows.{most_of}
 use Rattle.exact_rows.specs.declared.rows.TheConstants.{MOST_FACTORS}
 use Rattle.exact_rows.proofs.RoomLemmas.{one-more, rises}
 use Rattle.path_cost.specs.Estimates.{set_numbers_from, product_from, table_rows}

@@ -20,8 +20,9 @@ use Rattle.catalog.specs.Statistics.{Statistics}
 use Rattle.eq_classes.specs.Equality.{is_column}
 use Rattle.eq_classes.proofs.EqualLemmas.{column_is}
 use Rattle.path_cost.specs.declared.shares.TheConstants.{ALL_ROWS, PER_SHARE}
-use Rattle.path_cost.specs.Columns.{AreTables, IsOver, is_column_in, stats_of}
-use Rattle.path_cost.specs.Limits.{HasColumns}
+use Rattle.path_cost.specs.Columns.{stats_of}
+use Rattle.path_cost.specs.work.Columns.{AreTables, IsOver, is_column_in}
+use Rattle.path_cost.specs.work.Limits.{HasColumns}
 use Rattle.path_cost.specs.Ranges.{ColumnBound, both_ends, bound_of, listed_condition, has_bound, has_end, is_bound_at, is_side, bounded_side}
 use Rattle.path_cost.specs.Selectivity.{bound_share, column_literal, column_range, end_weight, equal_by, inequality, is_ranged, least_bound, of_column_and, range_weight, valued}
 use Rattle.path_cost.proofs.LimitLemmas.{known-lawful}

@@ -4,12 +4,13 @@ use Rattle.std.specs.Prelude.{fold, IfSome}
 use Rattle.catalog.specs.Contents.{Contents}
 use Rattle.catalog.specs.Range.{Range}
 use Rattle.eq_classes.specs.Clauses.{ClassTable, Set, one}
-use Rattle.cost_rules.specs.Costs.{IsEstimate}
+use Rattle.cost_rules.specs.work.Costs.{IsEstimate}
 use Rattle.cost_rules.specs.Scans.{heap_pages_of, leaves_cost, run_cost}
 use Rattle.cost_rules.specs.declared.parameters.TheConstants.{RANDOM_PAGE}
 use Rattle.cost_rules.proofs.RisingLemmas.{ceil-least, once-at_least}
 use Rattle.path_cost.specs.Estimates.{set_numbers_from, relations, set_rows}
-use Rattle.path_cost.specs.Runs.{least_or_one, lesser_with, runs}
+use Rattle.path_cost.specs.Runs.{least_or_one, runs}
+use Rattle.path_cost.specs.work.Runs.{lesser_with}
 use Rattle.path_cost.proofs.NumberLemmas.{numbers-at}
 
 -- the least of some numbers with one that may be missing

@@ -23,10 +23,10 @@ use Rattle.cost_rules.specs.Powers.{log_up}
 use Rattle.cost_rules.specs.Scans.{fetch_cost, heap_pages_of, leaves_cost, page_in_order, pages_of_entries, part_cost, run_cost}
 use Rattle.cost_rules.proofs.PowerLemmas.{few-doublings, log-least}
 use Rattle.cost_rules.proofs.RisingLemmas.{ceil-least}
-use Rattle.path_cost.specs.Columns.{AreTables}
+use Rattle.path_cost.specs.work.Columns.{AreTables}
 use Rattle.path_cost.specs.Costs.{arm_part, bitmap_cost, descent, descent_by, index_rows_found, index_cost, index_part, local_operators, operators, other_operators, rows_after, seq_cost}
 use Rattle.path_cost.specs.Estimates.{conditions_from, conditions_where, entry_estimate, entries_by, kept_among, set_numbers_from, picked_from, table_pages, table_rows}
-use Rattle.path_cost.specs.Limits.{AreWithinLimits, HasColumns}
+use Rattle.path_cost.specs.work.Limits.{AreWithinLimits, HasColumns}
 use Rattle.path_cost.specs.Ranges.{conditions}
 use Rattle.path_cost.specs.Runs.{runs}
 use Rattle.path_cost.specs.Selectivity.{selectivity}

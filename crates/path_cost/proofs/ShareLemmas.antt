@@ -14,7 +14,7 @@ use Rattle.catalog.specs.Statistics.{Statistics, Common, IsLawfulStatistics, sha
 use Rattle.catalog.specs.declared.limits.TheConstants.{WHOLE_SHARE}
 use Rattle.path_cost.specs.declared.shares.TheConstants.{ALL_ROWS, THIRD, UNKNOWN_NULLS, PER_SHARE}
 use Rattle.path_cost.specs.declared.known.Known.{Known}
-use Rattle.path_cost.specs.Known.{IsLawfulKnown, statistics_of}
+use Rattle.path_cost.specs.work.Known.{IsLawfulKnown, statistics_of}
 use Rattle.path_cost.proofs.PlaceLemmas.{met-most, part_fits, quotient-most}
 use Rattle.path_cost.specs.Selectivity.{comparison_holds, valued, uncommon, equal_by, equal_share, bounds_passed, met_of, place, by_histogram, shares_met, inequality, column_literal, equal_columns, two_columns, all_or_none, null_by, and_share, or_share}
 

@@ -16,8 +16,9 @@ use Rattle.catalog.specs.Contents.{Contents, IsLawful}
 use Rattle.catalog.specs.Range.{Range, column_at, table_of, type_in}
 use Rattle.eq_classes.specs.Classes.{listed}
 use Rattle.path_cost.specs.declared.shares.TheConstants.{ALL_ROWS}
-use Rattle.path_cost.specs.Columns.{AreTables, is_column_in, known_statistics, stats_of}
-use Rattle.path_cost.specs.Limits.{HasColumns, HaveColumns}
+use Rattle.path_cost.specs.Columns.{known_statistics, stats_of}
+use Rattle.path_cost.specs.work.Columns.{AreTables, is_column_in}
+use Rattle.path_cost.specs.work.Limits.{HasColumns, HaveColumns}
 use Rattle.path_cost.specs.Ranges.{listed_condition}
 use Rattle.path_cost.specs.Selectivity.{and_share, of_all, of_any, of_column_and, of_comparison, of_null, or_share, range_weight, selectivity, weight, weight_or}
 use Rattle.path_cost.proofs.ColumnLemmas.{column_laws, nulls_most}

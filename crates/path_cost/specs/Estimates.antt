@@ -1,9 +1,8 @@
 -- Estimated rows. Own, in the manner of PostgreSQL's clauselist_selectivity, set_baserel_size_estimates and
 -- get_parameterized_baserel_size.
-use Rattle.std.specs.Prelude.{ℕ, ◌+◌, ◌*◌, Bool, false, ◌&&◌, ◌||◌, cond, nat_eq, not, List, [], ◌∷◌, map, filter, fold, length, Option, Some, None, nat_lt}
+use Rattle.std.specs.Prelude.{ℕ, ◌+◌, ◌*◌, Bool, false, ◌&&◌, cond, nat_eq, List, [], ◌∷◌, map, filter, fold, length, Option, Some, None}
 use Rattle.std.specs.List.{list_any, range_with_len}
 use Rattle.pg_base.specs.declared.numbers.IndexNo.{IndexNo}
-use Rattle.pg_expr.specs.AtomSets.{contains}
 use Rattle.pg_expr.specs.Cond.{Cond}
 use Rattle.catalog.specs.Contents.{Contents, index_at}
 use Rattle.catalog.specs.Indexes.{Index}
@@ -16,7 +15,6 @@ use Rattle.cost_rules.specs.Powers.{clamped}
 use Rattle.exact_rows.specs.Rows.{share_kept}
 use Rattle.path_cost.specs.Ranges.{conditions}
 use Rattle.path_cost.specs.Selectivity.{selectivity, weights}
-use Rattle.eq_classes.specs.declared.classes.ClassNo.{ClassNo}
 
 -- the conditions of the clauses that pass a test, by their numbers
 abbrev pub conditions_where : (Clause → Bool) → List Clause → List Cond
@@ -39,22 +37,6 @@ is_pair_by (Some n) keys = list_any (nat_eq n) keys
 -- a clause is a pair clause of one of some classes: a merge by these finds the pairs that meet it
 abbrev pub is_pair_of : List ℕ → Clause → Bool
 is_pair_of keys k = is_pair_by (pair_class_of k.source) keys
-
--- a number is that of a pair clause of one of some classes
-abbrev pub is_pair_at : List ClassNo → ClassTable → ℕ → Bool
-is_pair_at keys t n = is_pair_of (map (λ (k : ClassNo). k.0) keys) (clause_at t.clauses n)
-
--- a number is that of a pair clause of one of some classes that joins two sets
-abbrev pub is_keyed : Set → Set → List ClassNo → ClassTable → ℕ → Bool
-is_keyed a b keys t n = nat_lt n (length t.clauses) && (is_join a b (clause_at t.clauses n) && is_pair_at keys t n)
-
--- a number is in one of two sets of clauses
-abbrev pub either : List ℕ → List ℕ → ℕ → Bool
-either a b n = contains a n || contains b n
-
--- a number is in one of two sets of clauses and not in a third
-abbrev pub either_but : List ℕ → List ℕ → List ℕ → ℕ → Bool
-either_but a b c n = either a b n && not (contains c n)
 
 -- the numbers of a set from a number on, of so many, in order
 abbrev pub set_numbers_from : ℕ → ℕ → (ℕ → Bool) → List ℕ
@@ -114,10 +96,6 @@ module _ (c : Contents) (range : Range) where
   -- the pairs of rows of two sets that are equal in the classes of a list
   abbrev pub pairs : ClassTable → Set → Set → List ℕ → ℕ
   pairs t a b keys = kept_where (set_rows t a * set_rows t b) (λ k. is_join a b k && is_pair_of keys k) t
-
--- the pairs of rows of two sets that are equal in some classes
-abbrev pub pairs_by : Contents → Range → ClassTable → Set → Set → List ClassNo → ℕ
-pairs_by c range t a b keys = pairs c range t a b (map (λ (k : ClassNo). k.0) keys)
 
 -- the entries of an index: the rows of its table at which its predicate, as one condition, is taken to be True; without
 -- a predicate all rows

@@ -1,10 +1,7 @@
 pub mod Columns
 pub mod Ranges
 pub mod Selectivity
-pub mod Known
-pub mod Relations
 pub mod Estimates
 pub mod Runs
 pub mod Costs
-pub mod Cut
-pub mod Limits
+pub mod work

@@ -10,20 +10,12 @@ use Rattle.pg_expr.specs.declared.operand.ColRef.{ColRef}
 use Rattle.pg_expr.specs.declared.operand.Operand.{Operand}
 use Rattle.pg_expr.specs.declared.operand.Operand.TheVariants.{Col, Lit}
 use Rattle.pg_expr.specs.Cond.{Cond, compare, const}
-use Rattle.pg_expr.specs.View as view
 use Rattle.eq_classes.specs.Clauses.{Clause, ClassTable}
 use Rattle.eq_classes.specs.Equality.{is_column}
-use Rattle.path_cost.specs.declared.ranges.Listing.{Listing}
-use Rattle.path_cost.specs.declared.ranges.Listing.TheVariants.{Parts, Clauses}
 
 -- the conditions of all clauses, by their numbers
 abbrev pub conditions : ClassTable → List Cond
 conditions t = map (λ (k : Clause). k.cond) t.clauses
-
--- the conditions of a list: the parts of an AND, or the clauses of a query
-abbrev pub conditions_of : Listing → List Cond
-conditions_of (Parts es) = map view.cond es.now
-conditions_of (Clauses t) = conditions t.now
 
 -- the condition of a number of a list, the first being 0
 abbrev pub listed_condition : List Cond → ℕ → Cond

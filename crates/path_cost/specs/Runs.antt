@@ -1,5 +1,5 @@
 -- How often a scan is run. Own, in the manner of PostgreSQL's get_loop_count.
-use Rattle.std.specs.Prelude.{ℕ, min, List, [], ◌∷◌, map, fold, Option, Some, None}
+use Rattle.std.specs.Prelude.{ℕ, min, List, [], ◌∷◌, map, fold}
 use Rattle.catalog.specs.Contents.{Contents}
 use Rattle.catalog.specs.Range.{Range}
 use Rattle.eq_classes.specs.Clauses.{ClassTable, Set, one}
@@ -9,11 +9,6 @@ use Rattle.path_cost.specs.Estimates.{relations, set_rows}
 abbrev pub least_or_one : List ℕ → ℕ
 least_or_one [] = 1
 least_or_one (n ∷ ns) = fold min n ns
-
--- the lesser of a number that may be missing and another
-abbrev pub lesser_with : Option ℕ → ℕ → ℕ
-lesser_with None n = n
-lesser_with (Some m) n = min m n
 
 -- the estimated rows of each relation of a set, alone
 abbrev pub rows_alone : Contents → Range → ClassTable → Set → List ℕ

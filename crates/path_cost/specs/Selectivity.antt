@@ -12,7 +12,6 @@ use Rattle.pg_expr.specs.declared.operand.ColRef.{ColRef}
 use Rattle.pg_expr.specs.declared.operand.Operand.{Operand}
 use Rattle.pg_expr.specs.declared.operand.Operand.TheVariants.{Col, Lit}
 use Rattle.pg_expr.specs.Cond.{Cond, compare, is_null, is_not_null, bool_col, const, all_of, any_of, negation, Conds, no_conds, cond_and}
-use Rattle.pg_expr.specs.View as view
 use Rattle.catalog.specs.Contents.{Contents}
 use Rattle.catalog.specs.Range.{Range, column_at}
 use Rattle.catalog.specs.Statistics.{Common, Statistics, bound_at, shares}
@@ -21,7 +20,6 @@ use Rattle.path_cost.specs.declared.shares.TheConstants.{ALL_ROWS, THIRD, HALF, 
 use Rattle.path_cost.specs.Columns.{known_statistics, stats_of}
 use Rattle.path_cost.specs.Ranges.{ColumnBound, bound_of, both_ends, listed_condition, has_bound, has_end, is_bound_at}
 use Rattle.eq_classes.specs.Classes.{listed}
-use Rattle.pg_expr.specs.declared.expr.Expr.{Expr}
 
 -- a comparison of two values is True
 abbrev pub comparison_holds : Op → Value → Value → Bool
@@ -227,14 +225,6 @@ module _ (c : Contents) (range : Range) where
     pub of_any : ℕ → Conds → ℕ
     of_any a no_conds = a
     of_any a (cond_and e es) = of_any (or_share a (selectivity e)) es
-
-  -- the share at which all conditions are True
-  abbrev pub all_share : List Expr → ℕ
-  all_share es = of_all (map view.cond es) 0 ALL_ROWS (view.conds es)
-
-  -- the share at which some condition is True
-  abbrev pub any_share : List Expr → ℕ
-  any_share es = of_any 0 (view.conds es)
 
   -- what the condition of a number of a list multiplies with
   abbrev pub weight : List Cond → ℕ → ℕ

@@ -5,13 +5,14 @@ ghost use Rattle.pg_value.specs.Truths.{IsSameKind};
 ghost use Rattle.pg_expr.specs.Columns.{passes_column};
 ghost use Rattle.pg_expr.specs.Typed.{AreTyped, IsTyped, some_value};
 ghost use Rattle.pg_expr.specs.Cond as conds;
-ghost use Rattle.pg_expr.specs.View as view;
-ghost use Rattle.path_cost.specs.Columns.{AreTables, IsOver, is_column_in};
+ghost use Rattle.pg_expr.specs.work.View as view;
+ghost use Rattle.path_cost.specs.work.Columns.{AreTables, IsOver, is_column_in};
 ghost use Rattle.catalog.specs.Range.{type_in};
-ghost use Rattle.path_cost.specs.Ranges.{conditions_of};
-ghost use Rattle.path_cost.specs.Relations.{range_of};
+ghost use Rattle.path_cost.specs.work.Ranges.{conditions_of};
+ghost use Rattle.path_cost.specs.work.Relations.{range_of};
 ghost use Rattle.path_cost.specs.Selectivity as sel;
-ghost use Rattle.path_cost.specs.Limits.{HasColumns, HaveColumns};
+ghost use Rattle.path_cost.specs.work.Selectivity as sel_work;
+ghost use Rattle.path_cost.specs.work.Limits.{HasColumns, HaveColumns};
 
 use crate::ranges::{Listing, range_weight};
 use crate::shares::{ALL_ROWS, HALF, PER_SHARE, UNKNOWN_NULLS, column_literal, holds, two_columns};
@@ -71,7 +72,7 @@ fn all_share(cat: &Catalog, relations: Relations, parts: &[Expr]) -> u64
     requires tables { AreTables cat.now (range_of relations) }
     requires columns { HaveColumns cat.now (range_of relations) (view.conds parts.now) }
     requires typed { AreTyped (type_in cat.now (range_of relations)) (view.conds parts.now) }
-    ensures share { result ≡ sel.all_share cat.now (range_of relations.entry) parts.now }
+    ensures share { result ≡ sel_work.all_share cat.now (range_of relations.entry) parts.now }
     ensures part { result ≤ 1_000_000_000 }
 {
     let mut all = ALL_ROWS;
@@ -92,7 +93,7 @@ fn any_share(cat: &Catalog, relations: Relations, parts: &[Expr]) -> u64
     requires tables { AreTables cat.now (range_of relations) }
     requires columns { HaveColumns cat.now (range_of relations) (view.conds parts.now) }
     requires typed { AreTyped (type_in cat.now (range_of relations)) (view.conds parts.now) }
-    ensures share { result ≡ sel.any_share cat.now (range_of relations.entry) parts.now }
+    ensures share { result ≡ sel_work.any_share cat.now (range_of relations.entry) parts.now }
     ensures part { result ≤ 1_000_000_000 }
 {
     let mut any = 0;

@@ -3,12 +3,13 @@
 ghost use Rattle.std.specs.Prelude.{◌≡◌, ◌≤◌, ◌<◌, ◌^◌, ◌*◌, ◌&&◌, ℕ, All, length, map, nat_eq};
 ghost use Rattle.std.specs.List.{list_any};
 ghost use Rattle.pg_base.specs.Sets.{has};
-ghost use Rattle.pg_expr.specs.AtomSets.{contains};
+ghost use Rattle.pg_expr.specs.work.AtomSets.{contains};
 ghost use Rattle.eq_classes.specs.Clauses.{Clause};
 ghost use Rattle.eq_classes.specs.declared.classes.ClassNo.{ClassNo};
-ghost use Rattle.cost_rules.specs.Costs.{IsEstimate};
-ghost use Rattle.path_cost.specs.Columns.{AreTables, IsOver};
-ghost use Rattle.path_cost.specs.Estimates.{either, param_rows, product_rows, relations, set_rows, table_rows, kept_by, pairs_by, is_keyed, is_pair_at};
+ghost use Rattle.cost_rules.specs.work.Costs.{IsEstimate};
+ghost use Rattle.path_cost.specs.work.Columns.{AreTables, IsOver};
+ghost use Rattle.path_cost.specs.Estimates.{param_rows, product_rows, relations, set_rows, table_rows, kept_by};
+ghost use Rattle.path_cost.specs.work.Estimates.{either, pairs_by, is_keyed, is_pair_at};
 
 use crate::conditions::weight;
 use crate::ranges::Listing;

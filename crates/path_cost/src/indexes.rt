@@ -2,19 +2,19 @@
 
 ghost use Rattle.std.specs.Prelude.{◌≡◌, ◌≤◌, ◌<◌, [], ◌∷◌, false, All, length, map};
 ghost use Rattle.pg_base.specs.declared.limits.TheConstants.{MOST_ATOMS};
-ghost use Rattle.pg_expr.specs.AtomSets.{contains};
+ghost use Rattle.pg_expr.specs.work.AtomSets.{contains};
 ghost use Rattle.pg_expr.specs.Pushed.{parts_of};
-ghost use Rattle.pg_expr.specs.View as view;
+ghost use Rattle.pg_expr.specs.work.View as view;
 ghost use Rattle.catalog.specs.Contents.{Contents, IsIndex};
 ghost use Rattle.catalog.specs.Range.{Range};
 ghost use Rattle.eq_classes.specs.Classes.{listed};
 ghost use Rattle.eq_classes.specs.Clauses.{Clause};
 ghost use Rattle.cost_rules.specs.declared.parameters.TheConstants.{MOST_COST};
-ghost use Rattle.cost_rules.specs.Costs.{IsCost, IsEstimate};
-ghost use Rattle.path_cost.specs.Columns.{AreTables, IsOver, AreOver};
+ghost use Rattle.cost_rules.specs.work.Costs.{IsCost, IsEstimate};
+ghost use Rattle.path_cost.specs.work.Columns.{AreTables, IsOver, AreOver};
 ghost use Rattle.path_cost.specs.Costs as costs;
 ghost use Rattle.path_cost.specs.Estimates.{conditions_from, entry_estimate as entries_of, kept, kept_among};
-ghost use Rattle.path_cost.specs.Cut.{own_part_cut, part_cut, arm_cut, scan_cut};
+ghost use Rattle.path_cost.specs.work.Cut.{own_part_cut, part_cut, arm_cut, scan_cut};
 ghost use Rattle.path_cost.specs.Costs.{index_rows_found};
 
 use crate::conditions::{share_of, weight};

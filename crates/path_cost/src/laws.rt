@@ -8,11 +8,12 @@ ghost use Rattle.pg_expr.specs.Cond.{Cond};
 ghost use Rattle.catalog.specs.Contents.{Contents, IsIndex, IsLawful};
 ghost use Rattle.catalog.specs.Range.{Range};
 ghost use Rattle.eq_classes.specs.Clauses.{Set, ClassTable};
-ghost use Rattle.path_cost.specs.Columns.{AreTables, stats_of};
+ghost use Rattle.path_cost.specs.Columns.{stats_of};
+ghost use Rattle.path_cost.specs.work.Columns.{AreTables};
 ghost use Rattle.pg_expr.specs.declared.operand.ColRef.{ColRef};
 ghost use Rattle.path_cost.specs.Costs.{arm_part, bitmap_cost, index_cost, index_part, seq_cost};
 ghost use Rattle.path_cost.specs.Estimates.{kept, param_rows, set_rows};
-ghost use Rattle.path_cost.specs.Limits.{AreWithinLimits, HasColumns};
+ghost use Rattle.path_cost.specs.work.Limits.{AreWithinLimits, HasColumns};
 ghost use Rattle.path_cost.specs.Selectivity.{column_range, is_ranged, least_bound, selectivity, weight, weights};
 
 /// Estimated rows depend on the members of a set alone, however the set came about: rows of a set are one number however

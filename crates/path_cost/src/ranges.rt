@@ -3,13 +3,17 @@
 ghost use Rattle.std.specs.Prelude.{◌≡◌, ◌≤◌, ◌<◌, All, Bool, IfSome, IsTrue, Some, length, take};
 ghost use Rattle.pg_expr.specs.Typed.{IsTyped};
 ghost use Rattle.catalog.specs.Range.{type_in};
-ghost use Rattle.path_cost.specs.Limits.{HasColumns};
-ghost use Rattle.pg_expr.specs.View as view;
-ghost use Rattle.path_cost.specs.Columns.{AreTables, IsOver, is_column_in, stats_of};
+ghost use Rattle.path_cost.specs.work.Limits.{HasColumns};
+ghost use Rattle.pg_expr.specs.work.View as view;
+ghost use Rattle.path_cost.specs.Columns.{stats_of};
+ghost use Rattle.path_cost.specs.work.Columns.{AreTables, IsOver, is_column_in};
 ghost use Rattle.path_cost.specs.Ranges as ranges;
-ghost use Rattle.path_cost.specs.Ranges.{listed_condition, conditions_of};
-ghost use Rattle.path_cost.specs.Relations.{range_of};
+ghost use Rattle.path_cost.specs.work.Ranges as ranges_work;
+ghost use Rattle.path_cost.specs.Ranges.{listed_condition};
+ghost use Rattle.path_cost.specs.work.Ranges.{conditions_of};
+ghost use Rattle.path_cost.specs.work.Relations.{range_of};
 ghost use Rattle.path_cost.specs.Selectivity as sel;
+ghost use Rattle.path_cost.specs.work.Selectivity as sel_work;
 
 use crate::conditions::compared;
 use crate::shares::{ALL_ROWS, range_share};

@@ -3,9 +3,10 @@
 ghost use Rattle.std.specs.Prelude.{◌≡◌, ◌≤◌, All, length};
 ghost use Rattle.pg_base.specs.Sets.{has};
 ghost use Rattle.eq_classes.specs.Clauses.{Clause};
-ghost use Rattle.cost_rules.specs.Costs.{IsEstimate};
-ghost use Rattle.path_cost.specs.Columns.{AreTables, IsOver};
-ghost use Rattle.path_cost.specs.Runs.{lesser_with, runs as runs_of};
+ghost use Rattle.cost_rules.specs.work.Costs.{IsEstimate};
+ghost use Rattle.path_cost.specs.work.Columns.{AreTables, IsOver};
+ghost use Rattle.path_cost.specs.Runs.{runs as runs_of};
+ghost use Rattle.path_cost.specs.work.Runs.{lesser_with};
 
 use crate::estimates::rows;
 use catalog::{Catalog, RangeTable};

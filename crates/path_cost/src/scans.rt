@@ -3,11 +3,12 @@
 ghost use Rattle.std.specs.Prelude.{◌≡◌, ◌≤◌, ◌<◌, All, length};
 ghost use Rattle.eq_classes.specs.Clauses.{Clause};
 ghost use Rattle.cost_rules.specs.declared.parameters.TheConstants.{MOST_COST};
-ghost use Rattle.cost_rules.specs.Costs.{IsCost, IsEstimate, capped_pair};
-ghost use Rattle.path_cost.specs.Columns.{AreTables, IsOver};
+ghost use Rattle.cost_rules.specs.work.Costs.{IsCost, IsEstimate, capped_pair};
+ghost use Rattle.path_cost.specs.work.Columns.{AreTables, IsOver};
 ghost use Rattle.path_cost.specs.Costs.{seq_cost};
-ghost use Rattle.path_cost.specs.Estimates.{either_but, table_pages};
-ghost use Rattle.path_cost.specs.Cut.{saturated, operators_but, bitmap_cut};
+ghost use Rattle.path_cost.specs.Estimates.{table_pages};
+ghost use Rattle.path_cost.specs.work.Estimates.{either_but};
+ghost use Rattle.path_cost.specs.work.Cut.{saturated, operators_but, bitmap_cut};
 
 use crate::estimates::{after, is_in_either, relation_rows};
 use crate::runs::runs;

@@ -5,8 +5,9 @@ ghost use Rattle.pg_value.specs.Truths.{AreComparable, is_absolute};
 ghost use Rattle.catalog.specs.Statistics.{Common, shares};
 ghost use Rattle.catalog.specs.declared.limits.TheConstants.{MOST_COMMON, MOST_BOUNDS, WHOLE_SHARE};
 ghost use Rattle.path_cost.specs.Selectivity as sel;
+ghost use Rattle.path_cost.specs.work.Selectivity as sel_work;
 ghost use Rattle.path_cost.specs.Selectivity.{count_holding};
-ghost use Rattle.path_cost.specs.Known.{IsLawfulKnown, SuitsColumn, statistics_of};
+ghost use Rattle.path_cost.specs.work.Known.{IsLawfulKnown, SuitsColumn, statistics_of};
 
 use crate::known::Known;
 use catalog::WHOLE_SHARE;

@@ -1,11 +1,12 @@
 //! The tables of a condition's relations, and what is known of their columns.
 
 ghost use Rattle.std.specs.Prelude.{◌≡◌, ◌<◌, ◌≤◌, IfSome, IsTrue, length};
-ghost use Rattle.catalog.specs.Entries.{statistics};
+ghost use Rattle.catalog.specs.work.Entries.{statistics};
 ghost use Rattle.catalog.specs.Range.{column_at, table_of, type_in};
-ghost use Rattle.path_cost.specs.Columns.{AreTables, is_column_in, stats_of, nulls_known};
-ghost use Rattle.path_cost.specs.Known.{IsLawfulKnown, statistics_of};
-ghost use Rattle.path_cost.specs.Relations.{range_of};
+ghost use Rattle.path_cost.specs.Columns.{stats_of};
+ghost use Rattle.path_cost.specs.work.Columns.{AreTables, is_column_in, nulls_known};
+ghost use Rattle.path_cost.specs.work.Known.{IsLawfulKnown, statistics_of};
+ghost use Rattle.path_cost.specs.work.Relations.{range_of};
 
 use crate::known::Known;
 use crate::shares::UNKNOWN_DISTINCT;

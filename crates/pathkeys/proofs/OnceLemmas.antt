@@ -14,8 +14,9 @@ use Rattle.catalog.specs.pg_expr_operand_ColRef.{ColRef}
 use Rattle.eq_classes.specs.declared.order.OrderItem.{OrderItem}
 use Rattle.eq_classes.specs.Classes.{is_in, in_family}
 use Rattle.eq_classes.specs.Clauses.{ClassTable}
-use Rattle.pathkeys.specs.Keys.{Keys, AreDifferent, IsKeyList, is_constant, class_of, order_class, once, order_keys}
-use Rattle.pathkeys.specs.Finding.{is_class, is_ordered_by, new_class, order_after}
+use Rattle.pathkeys.specs.Keys.{Keys, AreDifferent, is_constant, class_of, order_class, once, order_keys}
+use Rattle.pathkeys.specs.work.Keys.{IsKeyList}
+use Rattle.pathkeys.specs.work.Finding.{is_class, is_ordered_by, new_class, order_after}
 
 filter_two : {A : Type 0} (p q : A → Bool) (xs : List A) → filter p (filter q xs) ≡ filter (λ x. q x && p x) xs
 filter_two p q [] = refl

@@ -14,8 +14,9 @@ use Rattle.catalog.specs.opfamily_classes_Method_TheVariants.{Btree, Hash}
 use Rattle.eq_classes.specs.declared.classes.ClassNo.{ClassNo}
 use Rattle.eq_classes.specs.Clauses.{ClassTable}
 use Rattle.eq_classes.specs.Listing.{class_at}
-use Rattle.pathkeys.specs.Keys.{Keys, IsKeyList, ends, passes, gives, is_constant, has_direction, step_of, key_column, class_of_key, keys_from, keys_by}
-use Rattle.pathkeys.specs.Finding.{is_class, is_of_some, step_after, keys_after}
+use Rattle.pathkeys.specs.Keys.{Keys, ends, passes, gives, is_constant, has_direction, step_of, key_column, class_of_key, keys_from, keys_by}
+use Rattle.pathkeys.specs.work.Keys.{IsKeyList}
+use Rattle.pathkeys.specs.work.Finding.{is_class, is_of_some, step_after, keys_after}
 use Rattle.pathkeys.proofs.OnceLemmas.{class_within}
 
 -- a key list whose classes are not among those that are taken

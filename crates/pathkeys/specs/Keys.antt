@@ -1,5 +1,5 @@
 -- Key lists: the classes by which rows are known to be sorted. Source: PostgreSQL, src/backend/optimizer/README (PathKeys).
-use Rattle.std.specs.Prelude.{◌≡◌, ◌≢◌, ◌<◌, ℕ, Bool, true, false, not, cond, ◌&&◌, ◌||◌, nat_eq, List, [], ◌∷◌, length, filter, filter_map, All, AllPairs, Option, Some, None}
+use Rattle.std.specs.Prelude.{◌≢◌, ℕ, Bool, true, false, not, cond, ◌&&◌, ◌||◌, nat_eq, List, [], ◌∷◌, filter, filter_map, AllPairs, Option, Some, None}
 use Rattle.std.specs.List.{list_any}
 use Rattle.std.specs.Option.{option_or}
 use Rattle.pg_base.specs.declared.numbers.IndexNo.{IndexNo}
@@ -27,12 +27,6 @@ AreDifferent keys = AllPairs (λ m n. m ≢ n) keys
 -- a class of a number has a constant: all rows are equal in it, and sorting by it orders nothing (README, PathKeys)
 abbrev pub is_constant : ClassTable → ℕ → Bool
 is_constant t n = has_constant (class_at t.classes n)
-
--- a key list of a table: different classes of it, none with a constant
-pub record IsKeyList (t : ClassTable) (keys : Keys) : Type 0 where
-  pub different : AreDifferent keys
-  pub classes : All (λ n. n < length t.classes) keys
-  pub free : All (λ n. is_constant t n ≡ false) keys
 
 -- the class of a column in a family
 abbrev pub class_of : ClassTable → ColRef → Family → Option ℕ

@@ -1,3 +1,3 @@
 pub mod Keys
 pub mod Sorted
-pub mod Finding
+pub mod work

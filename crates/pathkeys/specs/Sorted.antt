@@ -1,10 +1,10 @@
 -- Rows sorted by keys. Source: PostgreSQL, src/backend/optimizer/README (PathKeys).
-use Rattle.std.specs.Prelude.{List, map, Option, Some, None}
+use Rattle.std.specs.Prelude.{map, Option, Some, None}
 use Rattle.std.specs.declared.cmp.Ordering.{Ordering}
 use Rattle.std.specs.declared.cmp.Ordering.TheVariants.{Equal}
 use Rattle.catalog.specs.pg_value_value_Value.{Value}
 use Rattle.catalog.specs.pg_value_ColumnOrder.{column_order}
-use Rattle.catalog.specs.pg_value_Sorting.{one_after_other, IsInOrder}
+use Rattle.catalog.specs.pg_value_Sorting.{one_after_other}
 use Rattle.catalog.specs.pg_expr_operand_ColRef.{ColRef}
 use Rattle.eq_classes.specs.Classes.{Class}
 use Rattle.eq_classes.specs.Clauses.{Set, ClassTable, first_in}
@@ -23,7 +23,3 @@ class_order c set a b = order_at c (first_in c set) a b
 -- by each class of a list in turn
 abbrev pub keys_order : {X : Type 0} → (X → ColRef → Value) → ClassTable → Set → Keys → X → X → Ordering
 keys_order value t set keys = one_after_other (map (λ n a b. class_order (class_at t.classes n) set (value a) (value b)) keys)
-
--- no row of a list is after a later one by the keys
-abbrev pub IsSortedByKeys : {X : Type 0} → (X → ColRef → Value) → ClassTable → Set → Keys → List X → Type 0
-IsSortedByKeys value t set keys = IsInOrder (keys_order value t set keys)

@@ -2,10 +2,12 @@
 
 ghost use Rattle.std.specs.Prelude.{◌≡◌, ◌<◌, [], IfOk, OnOk, IfSome, length};
 ghost use Rattle.catalog.specs.Contents.{IsIndex};
-ghost use Rattle.eq_classes.specs.Listing.{class_at, class_no};
+ghost use Rattle.eq_classes.specs.Listing.{class_at};
+ghost use Rattle.eq_classes.specs.work.Listing.{class_no};
 ghost use Rattle.pathkeys.specs.Keys as keys;
+ghost use Rattle.pathkeys.specs.work.Keys as keys_work;
 ghost use Rattle.pathkeys.specs.Keys.{class_of_key, has_direction, keys_from, turned};
-ghost use Rattle.pathkeys.specs.Finding.{is_class, is_of_some, step_found, key_step, GainsKeys, btree_key, index_key_at};
+ghost use Rattle.pathkeys.specs.work.Finding.{is_class, is_of_some, step_found, key_step, GainsKeys, btree_key, index_key_at};
 
 use crate::keys::{Keys, keys_of};
 use catalog::opfamily::{IndexKey, Method};

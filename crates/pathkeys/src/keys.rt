@@ -1,7 +1,7 @@
 //! Lists of classes, none of them twice.
 
 ghost use Rattle.std.specs.Prelude.{◌≡◌, IfOk};
-ghost use Rattle.pathkeys.specs.Finding.{class_numbers};
+ghost use Rattle.pathkeys.specs.work.Finding.{class_numbers};
 ghost use Rattle.pathkeys.specs.Keys.{AreDifferent, covers};
 
 use eq_classes::ClassNo;
@@ -24,7 +24,7 @@ impl Drop for Keys {
 
 impl Model for Keys {
     ghost use Rattle.std.specs.Prelude.{List, ℕ};
-    ghost use Rattle.pathkeys.specs.Finding.{class_numbers};
+    ghost use Rattle.pathkeys.specs.work.Finding.{class_numbers};
     ghost use Rattle.pathkeys.specs.Keys.{AreDifferent};
 
     ghost Value = { List ℕ };

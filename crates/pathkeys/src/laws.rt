@@ -5,7 +5,8 @@ ghost use Rattle.pg_base.specs.declared.numbers.IndexNo.{IndexNo};
 ghost use Rattle.catalog.specs.Contents.{Contents};
 ghost use Rattle.eq_classes.specs.declared.order.OrderItem.{OrderItem};
 ghost use Rattle.eq_classes.specs.Clauses.{ClassTable};
-ghost use Rattle.pathkeys.specs.Keys.{IsKeyList, Keys, covers, index_keys, order_keys};
+ghost use Rattle.pathkeys.specs.Keys.{Keys, covers, index_keys, order_keys};
+ghost use Rattle.pathkeys.specs.work.Keys.{IsKeyList};
 
 /// One list covers another exactly where the other is its first part.
 pub fn prefixes_are_covered()

@@ -3,9 +3,10 @@
 
 ghost use Rattle.std.specs.Prelude.{◌≡◌, ◌<◌, IfOk, IfSome, length, slice_get};
 ghost use Rattle.pathkeys.specs.Keys as keys;
+ghost use Rattle.pathkeys.specs.work.Keys as keys_work;
 ghost use Rattle.pathkeys.specs.Keys.{order_class};
-ghost use Rattle.pathkeys.specs.Finding.{is_ordered_by, item_class};
-ghost use Rattle.eq_classes.specs.Listing.{class_no};
+ghost use Rattle.pathkeys.specs.work.Finding.{is_ordered_by, item_class};
+ghost use Rattle.eq_classes.specs.work.Listing.{class_no};
 
 use crate::index_order::is_found;
 use crate::keys::{Keys, keys_of};

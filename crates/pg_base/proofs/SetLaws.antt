@@ -5,7 +5,8 @@ use Rattle.std.proofs.lemmas.Nat.Bits.{bit_at_or, bit_at_and, bit_at_not, bit_at
 use Rattle.std.proofs.lemmas.Grind.{common_steps}
 use Rattle.std.proofs.lemmas.Bool.{cases_lt, and_parts, and_from, false≢true}
 use Rattle.std.proofs.lemmas.Nat.{one_shl, and_le_l}
-use Rattle.pg_base.specs.Sets.{has, Meets}
+use Rattle.pg_base.specs.Sets.{has}
+use Rattle.pg_base.specs.work.Sets.{Meets}
 
 or_test : (x y : ℕ) → x < 2 → y < 2 → nat_eq (max x y) 1 ≡ nat_eq x 1 || nat_eq y 1
 or_test x y p q = grind (arith, common_steps)

@@ -4,7 +4,7 @@ ghost use Rattle.std.specs.Prelude.{◌≡◌, ◌<◌, ◌≤◌, ◌+◌, ◌-
 ghost use Rattle.std.specs.Io.{ReadsAtMost, WritesAtMost};
 ghost use Rattle.std.specs.Io.KnownBytes.{ReadConsumes, WriteAppends};
 ghost use Rattle.pg_base.specs.Causes.{HasCause};
-ghost use Rattle.pg_base.specs.Memories.{fails_next, one_more};
+ghost use Rattle.pg_base.specs.work.Memories.{fails_next, one_more};
 
 use crate::faults::Memory;
 use crate::outside::{Failed, Sink, Source};
@@ -24,7 +24,7 @@ pub struct MemSource {
 
 impl Model for MemSource {
     ghost use Rattle.std.specs.Prelude.{◌≤◌, ◌<◌, drop, vec_len};
-    ghost use Rattle.pg_base.specs.Memories.{Feed};
+    ghost use Rattle.pg_base.specs.work.Memories.{Feed};
 
     ghost Value = { Feed };
 
@@ -93,7 +93,7 @@ pub struct MemSink {
 
 impl Model for MemSink {
     ghost use Rattle.std.specs.Prelude.{◌≤◌, vec_capacity};
-    ghost use Rattle.pg_base.specs.Memories.{Hoard};
+    ghost use Rattle.pg_base.specs.work.Memories.{Hoard};
 
     ghost Value = { Hoard };
 

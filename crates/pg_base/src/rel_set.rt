@@ -1,7 +1,8 @@
 //! Sets of relations as words of 16 bits. Contracts see their members.
 
 ghost use Rattle.std.specs.Prelude.{◌≡◌, ℕ, ◌<◌, ◌^◌, ◌||◌, ◌&&◌, not, false, true, nat_eq, IsTrue, ◌↔◌, IfSome, IfNone};
-ghost use Rattle.pg_base.specs.Sets.{has, Meets};
+ghost use Rattle.pg_base.specs.Sets.{has};
+ghost use Rattle.pg_base.specs.work.Sets.{Meets};
 
 use crate::numbers::RelNo;
 

@@ -1,7 +1,7 @@
 //! Standard input and output as a source and sinks: the trusted edge. What the system does is std's word.
 
 ghost use Rattle.std.specs.Prelude.{◌≡◌};
-ghost use Rattle.pg_base.specs.StdEdge.{reader_of, read_faults, writer_of, write_faults};
+ghost use Rattle.pg_base.specs.work.StdEdge.{reader_of, read_faults, writer_of, write_faults};
 
 use crate::outside::{Failed, Sink, Source};
 use std::io::{Read, Write};

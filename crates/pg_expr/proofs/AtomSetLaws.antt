@@ -5,7 +5,7 @@ use Rattle.std.proofs.Math.ListN.{get_or-eq_default}
 use Rattle.std.proofs.lemmas.List.{get_or-replicate}
 use Rattle.std.proofs.lemmas.Bool.Decides.{nat_tests}
 use Rattle.pg_base.specs.Sets.{has}
-use Rattle.pg_expr.specs.AtomSets.{contains}
+use Rattle.pg_expr.specs.work.AtomSets.{contains}
 use Rattle.pg_base.proofs.SetLaws.{has-zero, has-or, has-shr, has-one_wide}
 use Rattle.pg_base.proofs.NumberLemmas.{same-place as same_place}
 use Rattle.pg_base.proofs.NumberLemmas.{other-place as other_place}

@@ -2,7 +2,7 @@
 use Rattle.std.proofs.Common.{◌≡◌, ℕ, zero, suc, ◌<◌, List, [], ◌∷◌, ◌++◌, length, get_or, refl, ap, arith}
 use Rattle.pg_expr.specs.Cond.{Conds, no_conds, cond_and, joined}
 use Rattle.pg_expr.specs.declared.expr.Expr.{Expr}
-use Rattle.pg_expr.specs.View.{cond, conds}
+use Rattle.pg_expr.specs.work.View.{cond, conds}
 
 pub conds-same : (a b : List Expr) → length a ≡ length b → ((k : ℕ) (d : Expr) → k < length a → cond (get_or a k d) ≡ cond (get_or b k d)) → conds a ≡ conds b
 conds-same [] [] len each = refl

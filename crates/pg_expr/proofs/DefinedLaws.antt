@@ -8,7 +8,7 @@ use Rattle.pg_value.specs.declared.value.SqlType.{SqlType}
 use Rattle.pg_value.specs.declared.value.SqlType.TheVariants.{Int2, Int4, Int8, Text as TextType, Bool as BoolType}
 use Rattle.pg_value.specs.declared.value.Value.{Value}
 use Rattle.pg_value.specs.declared.value.Value.TheVariants.{Null, Int, Bool as Flag, Text as String}
-use Rattle.pg_value.specs.Order.{IsOfFamily}
+use Rattle.pg_value.specs.work.Order.{IsOfFamily}
 use Rattle.pg_value.specs.Truths.{AreComparable, HasOp, IsSameKind}
 use Rattle.pg_value.specs.Types.{limit, in_range, IsOfType}
 use Rattle.pg_expr.specs.declared.operand.ColRef.{ColRef}
@@ -17,7 +17,8 @@ use Rattle.pg_expr.specs.declared.operand.Operand.TheVariants.{Col, Lit}
 use Rattle.pg_expr.specs.Cond.{Cond, compare, is_null, is_not_null, bool_col, const, all_of, any_of, negation, Conds, no_conds, cond_and}
 use Rattle.pg_expr.specs.Columns.{passes_column, each_column, each_column_of}
 use Rattle.pg_expr.specs.Truths.{value_of}
-use Rattle.pg_expr.specs.Typed.{some_value, IsTyped, AreTyped, FitsTypes, HasTruthOf}
+use Rattle.pg_expr.specs.Typed.{some_value, IsTyped, AreTyped}
+use Rattle.pg_expr.specs.work.Typed.{FitsTypes, HasTruthOf}
 use Rattle.pg_expr.specs.Pushed.{pushed}
 use Rattle.pg_expr.proofs.PushedLaws.{IsDefined, AreDefined, kinds_turned, pushed-truth}
 

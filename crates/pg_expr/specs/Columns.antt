@@ -1,5 +1,5 @@
 -- The columns that a condition names, and how many atoms it has. Own.
-use Rattle.std.specs.Prelude.{ℕ, ◌+◌, Bool, true, false, ◌&&◌, ◌||◌, nat_eq, nat_lt}
+use Rattle.std.specs.Prelude.{ℕ, ◌+◌, Bool, true, false, ◌&&◌, ◌||◌, nat_eq}
 use Rattle.pg_expr.specs.declared.operand.ColRef.{ColRef}
 use Rattle.pg_expr.specs.declared.operand.Operand.{Operand}
 use Rattle.pg_expr.specs.declared.operand.Operand.TheVariants.{Col, Lit}
@@ -50,10 +50,6 @@ abbrev mutual
 -- whether the condition names the relation
 abbrev pub names_rel : ℕ → Cond → Bool
 names_rel rel = some_column (λ c. nat_eq rel c.rel.0)
-
--- whether the relations that the condition names are below the limit
-abbrev pub rels_below : ℕ → Cond → Bool
-rels_below limit = each_column (λ c. nat_lt c.rel.0 limit)
 
 -- how many comparisons, null tests and boolean columns the condition has; a constant is none
 abbrev mutual

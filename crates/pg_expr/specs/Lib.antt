@@ -1,9 +1,7 @@
-pub mod AtomSets
 pub mod Columns
 pub mod Cond
-pub mod CondCode
 pub mod Conjuncts
 pub mod Pushed
 pub mod Truths
 pub mod Typed
-pub mod View
+pub mod work

@@ -1,15 +1,13 @@
 -- Well typed conditions, and bindings that fit the types. Source: PostgreSQL manual, Data Types and Operator Type Resolution.
-use Rattle.std.specs.Prelude.{◌≡◌, Bool, false, IsTrue, [], pos}
+use Rattle.std.specs.Prelude.{◌≡◌, false, [], pos}
 use Rattle.pg_value.specs.declared.value.SqlType.{SqlType}
 use Rattle.pg_value.specs.declared.value.SqlType.TheVariants.{Int2, Int4, Int8, Text as TextType, Bool as BoolType}
 use Rattle.pg_value.specs.declared.value.Value.{Value}
 use Rattle.pg_value.specs.declared.value.Value.TheVariants.{Int, Bool as Flag, Text as String}
 use Rattle.pg_value.specs.Truths.{AreComparable}
-use Rattle.pg_value.specs.Types.{IsOfType}
 use Rattle.pg_expr.specs.declared.operand.ColRef.{ColRef}
 use Rattle.pg_expr.specs.Cond.{Cond, compare, is_null, is_not_null, bool_col, const, all_of, any_of, negation, Conds, no_conds, cond_and}
-use Rattle.pg_expr.specs.Truths.{value_of, truth_at}
-use Rattle.pg_expr.specs.Columns.{each_column}
+use Rattle.pg_expr.specs.Truths.{value_of}
 
 -- some value of a type that is not NULL
 abbrev pub some_value : SqlType → Value
@@ -34,12 +32,3 @@ abbrev mutual
   pub AreTyped : (ColRef → SqlType) → Conds → Type 0
   AreTyped type_of no_conds = Unit {0}
   AreTyped type_of (cond_and c cs) = IsTyped type_of c × AreTyped type_of cs
-
--- each column that is bound has a value that is NULL or of its type
-abbrev pub FitsTypes : (ColRef → SqlType) → (ColRef → Bool) → (ColRef → Value) → Type 0
-FitsTypes type_of binds value_at = (c : ColRef) → IsTrue (binds c) → IsOfType (type_of c) (value_at c)
-
--- a condition has the truth of another under every binding that fits the types and binds its columns, where the other is well typed
-abbrev pub HasTruthOf : Cond → Cond → Type 0
-HasTruthOf other c = (type_of : ColRef → SqlType) (binds : ColRef → Bool) (value_at : ColRef → Value) →
-    IsTyped type_of other → IsTrue (each_column binds other) → FitsTypes type_of binds value_at → truth_at value_at c ≡ truth_at value_at other

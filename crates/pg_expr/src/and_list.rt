@@ -10,7 +10,7 @@ ghost use Rattle.pg_expr.specs.Truths.{truth_at, truth_of_all};
 ghost use Rattle.pg_expr.specs.Typed.{IsTyped, AreTyped};
 ghost use Rattle.pg_expr.specs.Cond.{joined, cond_and, no_conds};
 ghost use Rattle.pg_expr.specs.Conjuncts.{conjuncts_of, conjuncts_of_all};
-ghost use Rattle.pg_expr.specs.View.{cond, conds};
+ghost use Rattle.pg_expr.specs.work.View.{cond, conds};
 
 use crate::expr::{Expr, Exprs};
 use pg_base::Memory;

@@ -1,7 +1,7 @@
 //! Sets of the atoms of a condition, numbered from 0 up to `MOST_ATOMS`. Contracts see their members.
 
 ghost use Rattle.std.specs.Prelude.{◌≡◌, ℕ, ◌<◌, ◌||◌, false, nat_eq};
-ghost use Rattle.pg_expr.specs.AtomSets.{contains};
+ghost use Rattle.pg_expr.specs.work.AtomSets.{contains};
 
 use pg_base::MOST_ATOMS;
 use std::marker::Model;

@@ -4,8 +4,9 @@ ghost use Rattle.std.specs.Prelude.{◌≡◌, IsTrue};
 ghost use Rattle.pg_expr.specs.Cond.{compare};
 ghost use Rattle.pg_expr.specs.Columns.{passes_column, each_column, each_column_of};
 ghost use Rattle.pg_expr.specs.Truths.{value_of, truth_at, truth_of_all, truth_of_any, truth_of_null, truth_of_flag};
-ghost use Rattle.pg_expr.specs.Typed.{IsTyped, AreTyped, FitsTypes};
-ghost use Rattle.pg_expr.specs.View.{cond, conds};
+ghost use Rattle.pg_expr.specs.Typed.{IsTyped, AreTyped};
+ghost use Rattle.pg_expr.specs.work.Typed.{FitsTypes};
+ghost use Rattle.pg_expr.specs.work.View.{cond, conds};
 
 use crate::expr::Expr;
 use crate::operand::{ColRef, Operand};

@@ -1,7 +1,7 @@
 //! Copies of conditions.
 
 ghost use Rattle.std.specs.Prelude.{◌≡◌, IfOk};
-ghost use Rattle.pg_expr.specs.View.{cond, conds};
+ghost use Rattle.pg_expr.specs.work.View.{cond, conds};
 
 use crate::expr::{Expr, Exprs};
 use pg_base::Memory;

@@ -2,8 +2,9 @@
 
 ghost use Rattle.std.specs.Prelude.{◌≡◌, ℕ, ◌-◌, ◌^◌, ◌<◌, ◌||◌, false, min, nat_eq, nat_lt, IsTrue};
 ghost use Rattle.pg_base.specs.Sets.{has};
-ghost use Rattle.pg_expr.specs.Columns.{names_rel, names_column, some_column_of, rels_below, passes_column, each_column_of, atom_count, atom_count_of};
-ghost use Rattle.pg_expr.specs.View.{cond, conds};
+ghost use Rattle.pg_expr.specs.Columns.{names_rel, names_column, some_column_of, passes_column, each_column_of, atom_count, atom_count_of};
+ghost use Rattle.pg_expr.specs.work.Columns.{rels_below};
+ghost use Rattle.pg_expr.specs.work.View.{cond, conds};
 
 use crate::expr::{Expr, Exprs};
 use crate::operand::Operand;

@@ -9,7 +9,8 @@ ghost use Rattle.pg_expr.specs.Columns.{some_column, some_column_of, each_column
 ghost use Rattle.pg_expr.specs.Conjuncts.{conjuncts_of};
 ghost use Rattle.pg_expr.specs.Pushed.{pushed, IsPushed, ArePushed};
 ghost use Rattle.pg_expr.specs.Truths.{truth_at, truth_of_all};
-ghost use Rattle.pg_expr.specs.Typed.{IsTyped, AreTyped, HasTruthOf};
+ghost use Rattle.pg_expr.specs.Typed.{IsTyped, AreTyped};
+ghost use Rattle.pg_expr.specs.work.Typed.{HasTruthOf};
 
 /// The pushed form of each condition is in pushed form, has its truth, and keeps its types, columns and atoms. That of
 /// a condition in pushed form is itself.

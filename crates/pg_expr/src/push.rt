@@ -6,8 +6,9 @@ ghost use Rattle.pg_expr.specs.declared.operand.ColRef.{ColRef};
 ghost use Rattle.pg_expr.specs.Cond.{joined, compare, negation};
 ghost use Rattle.pg_expr.specs.Columns.{some_column, each_column, atom_count};
 ghost use Rattle.pg_expr.specs.Pushed.{pushed, pushed_parts, parts_of, placed, placed_not, is_lower, is_turned, group_of, IsPushed};
-ghost use Rattle.pg_expr.specs.Typed.{IsTyped, HasTruthOf};
-ghost use Rattle.pg_expr.specs.View.{cond, conds};
+ghost use Rattle.pg_expr.specs.Typed.{IsTyped};
+ghost use Rattle.pg_expr.specs.work.Typed.{HasTruthOf};
+ghost use Rattle.pg_expr.specs.work.View.{cond, conds};
 
 use crate::and_list::{append, push};
 use crate::expr::{Expr, Exprs};

@@ -1,7 +1,7 @@
 //! Whether two conditions are the same tree.
 
 ghost use Rattle.std.specs.Prelude.{◌≡◌, IsTrue, ◌↔◌};
-ghost use Rattle.pg_expr.specs.View.{cond, conds};
+ghost use Rattle.pg_expr.specs.work.View.{cond, conds};
 
 use crate::expr::{Expr, Exprs};
 use crate::operand::Operand;

@@ -9,7 +9,8 @@ use Rattle.pg_value.specs.declared.value.Value.{Value}
 use Rattle.pg_value.specs.declared.value.Value.TheVariants.{Null, Int, Bool as Flag, Text as String}
 use Rattle.pg_value.specs.declared.operators.Family.{Family}
 use Rattle.pg_value.specs.declared.operators.Family.TheVariants.{Integer, IntAbs, Text as TextOps, Bool as BoolOps}
-use Rattle.pg_value.specs.Order.{IsOfFamily, bytes, flag, number}
+use Rattle.pg_value.specs.Order.{bytes, flag, number}
+use Rattle.pg_value.specs.work.Order.{IsOfFamily}
 use Rattle.pg_value.specs.ColumnOrder.{column_order, directed}
 use Rattle.pg_value.proofs.OrderLaws.{same_flags, same_numbers, same_texts}
 use Rattle.pg_value.proofs.ColumnOrderLemmas.{rank, turned, turned_total}

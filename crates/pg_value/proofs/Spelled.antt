@@ -12,7 +12,8 @@ use Rattle.std.proofs.lemmas.List.Folds.{list_all-map, length-prefix_len}
 use Rattle.std.proofs.lemmas.List.Sums.{AllPass-from_list_all, list_all-from_AllPass, prefix_len_passes, suffix_len-le-length, prefix_len_is, suffix_len_is}
 use Rattle.std.proofs.lemmas.Slice.Eq.{bytes_eq-Decides}
 use Rattle.std.proofs.Math.Seq.{take-append_seam, drop-append_seam}
-use Rattle.pg_value.specs.Fields.{IsAmidBlanks, from_word, word_of, is_numeral, SpellsNumber, plain, plus, minus, number_of, is_start, is_true_word, is_false_word, flag_of}
+use Rattle.pg_value.specs.Fields.{from_word, word_of, is_numeral, number_of, is_start, is_true_word, is_false_word, flag_of}
+use Rattle.pg_value.specs.work.Fields.{IsAmidBlanks, SpellsNumber, plain, plus, minus}
 
 -- no white space in a word
 abbrev is_solid : List ℕ → Bool

@@ -1,12 +1,12 @@
 -- The value that the text of a field spells (PostgreSQL manual, COPY, Numeric Types and Boolean Type; decimal digits alone, own).
-use Rattle.std.specs.Prelude.{◌≡◌, ℕ, ◌-◌, Bool, true, false, cond, ◌&&◌, ◌||◌, List, [], ◌∷◌, ◌++◌, length, take, drop, map, codes, ℤ, pos, neg_ℤ, Option, None, Some, Ok, Err, nat_lt, nat_le}
+use Rattle.std.specs.Prelude.{ℕ, ◌-◌, Bool, true, false, cond, ◌&&◌, ◌||◌, List, [], ◌∷◌, length, take, drop, map, codes, ℤ, pos, neg_ℤ, Option, None, Some, Ok, Err, nat_lt, nat_le}
 use Rattle.std.specs.declared.result.Result.{Result}
 use Rattle.std.specs.Char.{is_ascii_whitespace, is_ascii_digit, to_ascii_lowercase}
 use Rattle.std.specs.List.{prefix_len, suffix_len, list_all}
 use Rattle.std.specs.Str.{bytes_eq}
-use Rattle.std.specs.Str.Parse.{digits_value, signed_digits_value, without_leading_sign}
+use Rattle.std.specs.Str.Parse.{signed_digits_value, without_leading_sign}
 use Rattle.pg_value.specs.declared.fields.FieldFault.{FieldFault}
-use Rattle.pg_value.specs.declared.fields.FieldFault.TheVariants.{Range, Invalid, Memory}
+use Rattle.pg_value.specs.declared.fields.FieldFault.TheVariants.{Range, Invalid}
 use Rattle.pg_value.specs.declared.value.SqlType.{SqlType}
 use Rattle.pg_value.specs.declared.value.SqlType.TheVariants.{Text as TextType, Bool as BoolType}
 use Rattle.pg_value.specs.declared.value.Value.{Value}
@@ -16,14 +16,6 @@ use Rattle.pg_value.specs.Types.{in_range}
 -- the text of NULL in COPY data, `\N`
 abbrev pub null_text : List ℕ
 null_text = 92 ∷ 78 ∷ []
-
--- a text is a word with white space (space, tab, LF, FF, CR) or nothing before and after it
-pub record IsAmidBlanks (text word : List ℕ) : Type 0 where
-  pub before : List ℕ
-  pub after : List ℕ
-  pub parts : text ≡ before ++ (word ++ after)
-  pub blank_before : list_all is_ascii_whitespace before ≡ true
-  pub blank_after : list_all is_ascii_whitespace after ≡ true
 
 -- the word of a text: what is left without the white space at its ends
 abbrev pub from_word : List ℕ → List ℕ
@@ -35,12 +27,6 @@ word_of text = take (length (from_word text) - suffix_len is_ascii_whitespace (f
 -- one decimal digit or more, and nothing else
 abbrev pub is_numeral : List ℕ → Bool
 is_numeral ds = nat_lt 0 (length ds) && list_all is_ascii_digit ds
-
--- a word spells a whole number: decimal digits after a plus, a minus or no sign
-pub data SpellsNumber : List ℕ → ℤ → Type 0 where
-  plain : (ds : List ℕ) → is_numeral ds ≡ true → SpellsNumber ds (pos (digits_value 10 ds))
-  plus : (ds : List ℕ) → is_numeral ds ≡ true → SpellsNumber (43 ∷ ds) (pos (digits_value 10 ds))
-  minus : (ds : List ℕ) → is_numeral ds ≡ true → SpellsNumber (45 ∷ ds) (neg_ℤ (pos (digits_value 10 ds)))
 
 -- the whole number that a word spells, or none
 unfoldable pub number_of : List ℕ → Option ℤ
@@ -80,8 +66,3 @@ abbrev pub field_value : SqlType → List ℕ → Result Value FieldFault
 field_value TextType text = Ok (String text)
 field_value BoolType text = flagged (flag_of (word_of text))
 field_value t text = ranged t (number_of (word_of text))
-
--- an answer is the one wanted, or says that memory ran out
-abbrev pub IsUnlessMemory : Result Value FieldFault → Result Value FieldFault → Type 0
-IsUnlessMemory wanted (Err Memory) = Unit {0}
-IsUnlessMemory wanted answer = wanted ≡ answer

@@ -5,3 +5,4 @@ pub mod Types
 pub mod ColumnOrder
 pub mod Sorting
 pub mod Kinds
+pub mod work

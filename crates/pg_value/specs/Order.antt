@@ -1,12 +1,12 @@
 -- The order of values in a family of operators, on whole numbers and byte lists.
-use Rattle.std.specs.Prelude.{ℕ, Bool, false, List, [], ℤ, pos, unsigned_abs, Option, None, Some}
+use Rattle.std.specs.Prelude.{ℕ, Bool, false, List, [], ℤ, pos, unsigned_abs}
 use Rattle.std.specs.Ordering.{on, nat_cmp, int_cmp, bool_cmp}
 use Rattle.std.specs.Cmp.Lexicographic.{slice_cmp}
 use Rattle.std.specs.declared.cmp.Ordering.{Ordering}
 use Rattle.pg_value.specs.declared.operators.Family.{Family}
 use Rattle.pg_value.specs.declared.operators.Family.TheVariants.{Integer, IntAbs, Text as TextOps, Bool as BoolOps}
 use Rattle.pg_value.specs.declared.value.Value.{Value}
-use Rattle.pg_value.specs.declared.value.Value.TheVariants.{Null, Int, Bool as Flag, Text as String}
+use Rattle.pg_value.specs.declared.value.Value.TheVariants.{Int, Bool as Flag, Text as String}
 
 -- what a value holds, read as a whole number, a truth value or a byte list (own)
 abbrev pub number : Value → ℤ
@@ -33,18 +33,3 @@ value_order Integer = on number int_cmp
 value_order IntAbs = on magnitude nat_cmp
 value_order TextOps = on bytes (slice_cmp nat_cmp)
 value_order BoolOps = on flag bool_cmp
-
--- how a family orders two values; none where one is NULL
-abbrev pub compared : Family → Value → Value → Option Ordering
-compared f Null _ = None
-compared f _ Null = None
-compared f a b = Some (value_order f a b)
-
--- a value is NULL or of the kind that a family orders
-abbrev pub IsOfFamily : Family → Value → Type 0
-IsOfFamily _ Null = Unit {0}
-IsOfFamily Integer (Int n) = Unit {0}
-IsOfFamily IntAbs (Int n) = Unit {0}
-IsOfFamily TextOps (String t) = Unit {0}
-IsOfFamily BoolOps (Flag b) = Unit {0}
-IsOfFamily _ _ = ⊥

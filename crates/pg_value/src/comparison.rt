@@ -4,7 +4,8 @@ ghost use Rattle.std.specs.Prelude.{◌≡◌, ◌↔◌, ℕ, ℤ, Bool, List, 
 ghost use Rattle.std.specs.Cmp.{IsTotalOrder};
 ghost use Rattle.pg_value.specs.declared.operators.Family.{Family};
 ghost use Rattle.pg_value.specs.declared.value.Value.{Value};
-ghost use Rattle.pg_value.specs.Order.{value_order, compared, IsOfFamily};
+ghost use Rattle.pg_value.specs.Order.{value_order};
+ghost use Rattle.pg_value.specs.work.Order.{compared, IsOfFamily};
 ghost use Rattle.pg_value.specs.Truths.{both, either, opposite, truth_of, truth_of_op, accepts, AreComparable, negator_of, commutator_of};
 
 use crate::operators::{Family, Op, Truth};

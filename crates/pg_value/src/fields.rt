@@ -3,7 +3,8 @@
 ghost use Rattle.std.specs.Prelude.{◌≡◌, ◌↔◌, ◌≤◌, ◌<◌, ◌^◌, ◌-◌, ℕ, ℤ, Bool, true, List, min, map, pos, cond, MatchOption, IfErr, IfOk, IsTrue, Some, None};
 ghost use Rattle.std.specs.Char.{to_ascii_lowercase};
 ghost use Rattle.std.specs.Str.Parse.{digits_value, starts_with_minus, without_leading_sign};
-ghost use Rattle.pg_value.specs.Fields.{IsAmidBlanks, SpellsNumber, word_of, is_numeral, number_of, flag_of, is_start, is_true_word, is_false_word, signed, ranged, flagged, field_value, IsUnlessMemory};
+ghost use Rattle.pg_value.specs.Fields.{word_of, is_numeral, number_of, flag_of, is_start, is_true_word, is_false_word, signed, ranged, flagged, field_value};
+ghost use Rattle.pg_value.specs.work.Fields.{IsAmidBlanks, SpellsNumber, IsUnlessMemory};
 ghost use Rattle.pg_value.specs.Types.{IsOfType, limit};
 
 use crate::bytes::Bytes;

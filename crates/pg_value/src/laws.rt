@@ -6,7 +6,7 @@ ghost use Rattle.pg_value.specs.declared.operators.Family.{Family};
 ghost use Rattle.pg_value.specs.declared.value.Value.{Value};
 ghost use Rattle.pg_value.specs.ColumnOrder.{column_order};
 ghost use Rattle.pg_value.specs.Kinds.{directed_order, kind_order};
-ghost use Rattle.pg_value.specs.Order.{IsOfFamily};
+ghost use Rattle.pg_value.specs.work.Order.{IsOfFamily};
 
 use crate::operators::Family;
 use std::cmp::Ordering;

@@ -9,9 +9,11 @@ use Rattle.statements.specs.declared.end.End.{End}
 use Rattle.statements.specs.declared.end.End.TheVariants as ends
 use Rattle.pgplan.specs.Runs.{HasNoFault, ReachesFault}
 use Rattle.statements.specs.Scripts.{world_after}
-use Rattle.pgplan.specs.Statuses.{IsTold, line_of, line_of_work, number_of, status_of_work}
-use Rattle.statements.specs.Steps.{HasField}
-use Rattle.pgplan.specs.Summaries.{AreSummed, EndsTally, EndsUnsummed, IsSumOver, IsSummedUp}
+use Rattle.pgplan.specs.Statuses.{IsTold, line_of}
+use Rattle.pgplan.specs.work.Statuses.{line_of_work, number_of, status_of_work}
+use Rattle.statements.specs.work.Steps.{HasField}
+use Rattle.pgplan.specs.Summaries.{AreSummed, IsSummedUp}
+use Rattle.pgplan.specs.work.Summaries.{EndsTally, EndsUnsummed, IsSumOver}
 use Rattle.pgplan.proofs.TopLemmas.{none_reached_from}
 
 -- a text that was not summed up

@@ -12,7 +12,8 @@ use Rattle.statements.specs.Replies.{IsReply}
 use Rattle.statements.specs.Scripts.{Worked, AreWorked, AreFirst, world_after, place_after, replies}
 use Rattle.statements.specs.reply_Replies.{Traces}
 use Rattle.statements.specs.Steps.{Advances, IsBegun, Stops}
-use Rattle.pgplan.specs.Runs.{IsAnswered, IsCutOff, Ends}
+use Rattle.pgplan.specs.Runs.{IsAnswered, IsCutOff}
+use Rattle.pgplan.specs.work.Runs.{Ends}
 use Rattle.pg_base.proofs.OptionLemmas.{appends-none as Appends-none}
 
 -- one more statement

@@ -9,10 +9,12 @@ use Rattle.statements.specs.reply_measuring_Measured.{Measured}
 use Rattle.sql_query.specs.Worlds.{World, empty_world}
 use Rattle.statements.specs.declared.end.End.{End}
 use Rattle.statements.specs.declared.end.End.TheVariants as ends
-use Rattle.statements.specs.Askings.{Asking, IsMeasuredOf, asked_in, askings}
+use Rattle.statements.specs.Askings.{Asking, asked_in, askings}
+use Rattle.statements.specs.work.Askings.{IsMeasuredOf}
 use Rattle.statements.specs.Scripts.{AreFirst, Worked, place_after, world_after}
-use Rattle.statements.specs.Steps.{StopsTally, Tallies}
-use Rattle.pgplan.specs.Summaries.{AreLeastPrices, AreSummed, ComeTo, EndsTally, cost_in, number_in, rows_told}
+use Rattle.statements.specs.work.Steps.{StopsTally, Tallies}
+use Rattle.pgplan.specs.Summaries.{AreLeastPrices, AreSummed, ComeTo}
+use Rattle.pgplan.specs.work.Summaries.{EndsTally, cost_in, number_in, rows_told}
 use Rattle.pgplan.proofs.ScriptLemmas.{AreWorked-more, place_after-more, world_after-more}
 
 cons-append : {A : Type 0} (o : Option A) (xs ys : List A) → cons_option o (xs ++ ys) ≡ cons_option o xs ++ ys

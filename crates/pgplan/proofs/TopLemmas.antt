@@ -14,10 +14,12 @@ use Rattle.store.specs.Actions.{Action, after}
 use Rattle.statements.specs.reply_Putting.{HasWriteCause}
 use Rattle.statements.specs.Faults.{IsFault}
 use Rattle.reply_text.specs.Tells.{IsFieldOf}
-use Rattle.statements.specs.Steps.{HasField}
+use Rattle.statements.specs.work.Steps.{HasField}
 use Rattle.statements.specs.Scripts.{Worked, AreWorked, world_after, place_after}
-use Rattle.pgplan.specs.Statuses.{IsTold, line_of_work, number_of, status_of_work}
-use Rattle.pgplan.specs.Runs.{Ends, IsAnswered, IsRunOver, HasStatusCause, HasNoFault, ReachesFault, IsCutShort}
+use Rattle.pgplan.specs.Statuses.{IsTold}
+use Rattle.pgplan.specs.work.Statuses.{line_of_work, number_of, status_of_work}
+use Rattle.pgplan.specs.Runs.{IsAnswered, HasNoFault, ReachesFault, IsCutShort}
+use Rattle.pgplan.specs.work.Runs.{Ends, IsRunOver, HasStatusCause}
 use Rattle.statements.proofs.OneReadingLemmas.{one_read, read_apart}
 
 -- a line that was written, or stopped by a fault

@@ -3,3 +3,4 @@ pub mod Runs
 pub mod Summaries
 pub mod Script
 pub mod Commands
+pub mod work

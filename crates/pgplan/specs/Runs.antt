@@ -2,22 +2,18 @@
 use Rattle.std.specs.Prelude.{ℕ, ◌≡◌, ◌⊎◌, ◌+◌, ◌<◌, ◌≤◌, List, ◌++◌, length, take}
 use Rattle.std.specs.declared.option.Option.{Option}
 use Rattle.std.specs.Io.KnownBytes.{Appends, Consumes, IsAtEnd}
-use Rattle.pg_base.specs.Causes.{Rose}
 use Rattle.pg_base.specs.Reading.{ConsumesUpTo}
 use Rattle.pg_base.specs.declared.faults.Fault.{Fault}
 use Rattle.pg_base.specs.declared.limits.TheConstants.{MOST_SCRIPT_BYTES}
 use Rattle.reply_text.specs.Lines.{fault_line}
-use Rattle.reply_text.specs.Tells.{IsFieldOf}
-use Rattle.sql_query.specs.Worlds.{World, empty_world}
-use Rattle.statements.specs.declared.end.End.{End}
-use Rattle.statements.specs.declared.end.End.TheVariants as ends
+use Rattle.sql_query.specs.Worlds.{empty_world}
 use Rattle.store.specs.Actions.{Action}
 use Rattle.statements.specs.Accepted.{IsRead}
 use Rattle.statements.specs.Faults.{IsFault}
 use Rattle.statements.specs.reply_Replies.{Reply}
 use Rattle.statements.specs.Replies.{IsReply}
 use Rattle.statements.specs.Scripts.{Worked, AreFirst, AreAll, world_after, place_after, replies}
-use Rattle.pgplan.specs.Statuses.{IsTold, IsWorkStatus, line_of}
+use Rattle.pgplan.specs.Statuses.{IsTold}
 
 -- a text was taken, all that the source had
 pub record IsReadWhole (left left' : Option (List ℕ)) (text : List ℕ) : Type 0 where
@@ -76,13 +72,6 @@ pub record ReachesFault (text : List ℕ) : Type 0 where
 abbrev pub HasNoFault : List ℕ → Type 0
 HasNoFault text = ¬ ReachesFault text
 
--- why the statements of a text were not all worked, and what is left: the world is that of the statements before a fault
-abbrev pub Ends : End → List ℕ → World → (held held' : Option (List ℕ)) → Type 0
-Ends (ends.Fault fault) text w held held' =
-    (statements : List Worked) × (w ≡ world_after empty_world statements) × IsFieldOf w.contents fault × EndsInFault text held held' statements fault
-Ends ends.Write text w held held' = IsCutOff text held held'
-Ends ends.Memory text w held held' = IsPaused text held held' ⊎ IsCutOff text held held'
-
 -- a text was read whole, and every statement answered
 abbrev pub AnswersAll : (left left' held held' : Option (List ℕ)) → Type 0
 AnswersAll left left' held held' = (text : List ℕ) × IsReadWhole left left' text × IsAnswered text held held'
@@ -103,21 +92,6 @@ abbrev pub RunsOut : (left left' held held' : Option (List ℕ)) → Type 0
 RunsOut left left' held held' =
     (ConsumesUpTo left left' (MOST_SCRIPT_BYTES + 1) × (held' ≡ held)) ⊎ ((text : List ℕ) × IsReadWhole left left' text × (IsPaused text held held' ⊎ IsCutOff text held held'))
 
--- what a run over a text that was read did, by its status
-pub record IsRunOver (status : ℕ) (text : List ℕ) (held held' errs errs' : Option (List ℕ)) (before now : ℕ) : Type 0 where
-  pub among : IsWorkStatus status
-  pub done : status ≡ 0 → IsAnswered text held held'
-  pub refused : status ≡ 3 → (statements : List Worked) × (fault : Fault) × EndsInFault text held held' statements fault
-      × IsTold errs errs' before now (fault_line (world_after empty_world statements).contents text fault)
-  pub cut : status ≡ 4 → IsCutOff text held held'
-  pub paused : status ≡ 5 → IsPaused text held held' ⊎ IsCutOff text held held'
-  pub line : (status ≡ 3 → ⊥) → IsTold errs errs' before now (line_of status)
-
 -- the source failed, out failed, or memory ran out
 abbrev pub IsCutShort : ℕ → Type 0
 IsCutShort status = (status ≡ 2) ⊎ ((status ≡ 4) ⊎ (status ≡ 5))
-
--- status 4 has its cause in out's faults, and nothing else raises them
-pub record HasStatusCause (status before now : ℕ) : Type 0 where
-  pub write : status ≡ 4 → Rose before now
-  pub quiet : (status ≡ 4 → ⊥) → now ≡ before

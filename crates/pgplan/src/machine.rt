@@ -5,7 +5,8 @@ ghost use Rattle.pg_base.specs.declared.limits.TheConstants.{MOST_SCRIPT_BYTES};
 ghost use Rattle.sql_query.specs.Worlds.{empty_world};
 ghost use Rattle.statements.specs.reply_Putting.{HasWriteCause};
 ghost use Rattle.statements.specs.reply_Replies.{traces};
-ghost use Rattle.statements.specs.Steps.{Advances, Stops, StopsTally, Tallies};
+ghost use Rattle.statements.specs.Steps.{Advances, Stops};
+ghost use Rattle.statements.specs.work.Steps.{StopsTally, Tallies};
 
 use catalog::Catalog;
 use heap::Counters;
@@ -27,9 +28,9 @@ pub struct Machine<C: Counters> {
 
 impl<C: Counters> Model for Machine<C> {
     ghost use Rattle.std.specs.Coded.{codes};
-    ghost use Rattle.pg_expr.specs.CondCode.{cond_code};
+    ghost use Rattle.pg_expr.specs.work.CondCode.{cond_code};
     ghost use Rattle.sql_query.specs.Worlds.{World, world};
-    ghost use Rattle.store.specs.Kept.{IsStoreOf};
+    ghost use Rattle.store.specs.work.Kept.{IsStoreOf};
 
     ghost Value = { World };
 

@@ -5,8 +5,9 @@ ghost use Rattle.pg_base.specs.declared.limits.TheConstants.{MOST_SCRIPT_BYTES};
 ghost use Rattle.statements.specs.reply_Putting.{HasWriteCause};
 ghost use Rattle.pgplan.specs.Script.{script};
 ghost use Rattle.sql_query.specs.Worlds.{empty_world};
-ghost use Rattle.pgplan.specs.Runs.{HasStatusCause};
-ghost use Rattle.pgplan.specs.Summaries.{EndsUnsummed, IsSumOver, IsSummedUp};
+ghost use Rattle.pgplan.specs.work.Runs.{HasStatusCause};
+ghost use Rattle.pgplan.specs.Summaries.{IsSummedUp};
+ghost use Rattle.pgplan.specs.work.Summaries.{EndsUnsummed, IsSumOver};
 
 use crate::machine::Machine;
 use crate::sample_script;

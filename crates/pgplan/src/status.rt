@@ -1,7 +1,8 @@
 //! How a run ends.
 
 ghost use Rattle.std.specs.Prelude.{◌≡◌};
-ghost use Rattle.pgplan.specs.Statuses.{line_of, number_of, status_of_reading, status_of_work};
+ghost use Rattle.pgplan.specs.Statuses.{line_of};
+ghost use Rattle.pgplan.specs.work.Statuses.{number_of, status_of_reading, status_of_work};
 
 use pg_base::ReadFault;
 use statements::End;

@@ -7,9 +7,11 @@ ghost use Rattle.pg_base.specs.Reading.{ConsumesUpTo};
 ghost use Rattle.pg_base.specs.declared.limits.TheConstants.{MOST_SCRIPT_BYTES};
 ghost use Rattle.pgplan.specs.Commands.{AreNoCommand, AreRunWords, AreSampleWords};
 ghost use Rattle.pgplan.specs.Script.{script};
-ghost use Rattle.pgplan.specs.Runs.{AnswersAll, CutsOff, HasNoFault, HasStatusCause, IsCutShort, IsRunOver, IsTooLong, ReachesFault, RunsOut, TellsFault};
-ghost use Rattle.pgplan.specs.Statuses.{IsTold, IsWorkStatus, line_of, line_of_work, number_of, status_of_work};
-ghost use Rattle.statements.specs.Steps.{HasField};
+ghost use Rattle.pgplan.specs.Runs.{AnswersAll, CutsOff, HasNoFault, IsCutShort, IsTooLong, ReachesFault, RunsOut, TellsFault};
+ghost use Rattle.pgplan.specs.work.Runs.{HasStatusCause, IsRunOver};
+ghost use Rattle.pgplan.specs.Statuses.{IsTold, IsWorkStatus, line_of};
+ghost use Rattle.pgplan.specs.work.Statuses.{line_of_work, number_of, status_of_work};
+ghost use Rattle.statements.specs.work.Steps.{HasField};
 ghost use Rattle.pgplan.specs.Summaries.{IsSummedInPart, IsSummedUp, TellsFaultAlone};
 
 use crate::machine::Machine;

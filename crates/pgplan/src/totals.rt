@@ -3,7 +3,8 @@
 ghost use Rattle.std.specs.Prelude.{◌≡◌, ◌≤◌, ◌<◌, ◌+◌, ◌*◌, ◌^◌, IfErr, IfOk, length};
 ghost use Rattle.pg_base.specs.declared.limits.TheConstants.{MOST_SCRIPT_BYTES};
 ghost use Rattle.sql_query.specs.Worlds.{empty_world};
-ghost use Rattle.pgplan.specs.Summaries.{AreSummed, EndsTally, cost_in, number_in, rows_told, summary_line};
+ghost use Rattle.pgplan.specs.Summaries.{AreSummed, summary_line};
+ghost use Rattle.pgplan.specs.work.Summaries.{EndsTally, cost_in, number_in, rows_told};
 
 use crate::machine::Machine;
 use heap::Counters;

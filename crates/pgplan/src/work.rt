@@ -4,7 +4,8 @@ ghost use Rattle.std.specs.Prelude.{◌≡◌, ◌≤◌, ◌^◌, IfErr, OnOk, 
 ghost use Rattle.pg_base.specs.declared.limits.TheConstants.{MOST_SCRIPT_BYTES};
 ghost use Rattle.sql_query.specs.Worlds.{empty_world};
 ghost use Rattle.statements.specs.reply_Putting.{HasWriteCause};
-ghost use Rattle.pgplan.specs.Runs.{Ends, IsAnswered};
+ghost use Rattle.pgplan.specs.Runs.{IsAnswered};
+ghost use Rattle.pgplan.specs.work.Runs.{Ends};
 
 use crate::machine::Machine;
 use heap::Counters;

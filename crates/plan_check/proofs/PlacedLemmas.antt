@@ -8,12 +8,12 @@ use Rattle.sql_query.specs.declared.window.Window.{Window}
 use Rattle.pathkeys.specs.Keys.{covers}
 use Rattle.plan_tree.specs.Paths.{startup_kept}
 use Rattle.plan_check.specs.Certificates.{Entry}
-use Rattle.plan_check.specs.Views.{entry}
+use Rattle.plan_check.specs.work.Views.{entry}
 use Rattle.plan_check.specs.declared.entry.Entry.{Entry as Entered}
 use Rattle.plan_check.proofs.UnfoldLemmas.{entry-at}
-use Rattle.plan_check.specs.Beating.{IsNoBeater, IsUnbeaten, beats}
-use Rattle.plan_check.specs.Placing.{ArePlaced, HasPut, IsAmong, IsOf, first_of, order_of, past_of, place_at}
-use Rattle.plan_check.specs.Ranking.{AreRanked}
+use Rattle.plan_check.specs.work.Beating.{IsNoBeater, IsUnbeaten, beats}
+use Rattle.plan_check.specs.work.Placing.{ArePlaced, HasPut, IsAmong, IsOf, first_of, order_of, past_of, place_at}
+use Rattle.plan_check.specs.work.Ranking.{AreRanked}
 use Rattle.plan_check.specs.declared.places.SetPlaces.{SetPlaces}
 
 -- one rank more

@@ -8,7 +8,7 @@ use Rattle.std.proofs.lemmas.List.{get_or_push, length_push}
 use Rattle.std.proofs.lemmas.List.Elements.{Contains-get_or}
 use Rattle.std.proofs.lemmas.List.Sorted.{Contains-permutation, IsPermutation-sym, length_permutation}
 use Rattle.std.proofs.Math.ListN.{get_or-append}
-use Rattle.plan_check.specs.Ranking.{AreFirstPlaces, AreRanked, HasRank}
+use Rattle.plan_check.specs.work.Ranking.{AreFirstPlaces, AreRanked, HasRank}
 
 -- none at first
 pub no-places : (xs : List ℕ) → xs ≡ [] → AreFirstPlaces xs 0

@@ -2,7 +2,7 @@
 
 ghost use Rattle.std.specs.Prelude.{◌≡◌, ◌≤◌, IfOk, length};
 ghost use Rattle.plan_check.specs.Limit.{MOST_ENTRIES};
-ghost use Rattle.plan_check.specs.Ranking.{AreRanked};
+ghost use Rattle.plan_check.specs.work.Ranking.{AreRanked};
 
 use crate::entry::{Entry, Side};
 use crate::ranking::ranked;
@@ -31,7 +31,7 @@ impl Model for Entries {
     ghost use Rattle.std.specs.Coded.{codes};
     ghost use Rattle.plan_tree.specs.contracts.bits.BitTree as trees;
     ghost use Rattle.plan_check.specs.Limit.{MOST_ENTRIES};
-    ghost use Rattle.plan_check.specs.Ranking.{AreRanked};
+    ghost use Rattle.plan_check.specs.work.Ranking.{AreRanked};
     ghost use Rattle.plan_check.specs.declared.entry.Entry.{Entry};
 
     ghost Value = { List Entry };

@@ -2,9 +2,9 @@
 
 ghost use Rattle.std.specs.Prelude.{◌≡◌, ◌<◌, ◌≤◌, length, map, min};
 ghost use Rattle.plan_check.specs.Limit.{MOST_ENTRIES};
-ghost use Rattle.plan_check.specs.Views.{entry};
-ghost use Rattle.plan_check.specs.Placing.{ArePlaced, HasPut, first_of, order_of, past_of, place_at, slot};
-ghost use Rattle.plan_check.specs.Ranking.{AreRanked};
+ghost use Rattle.plan_check.specs.work.Views.{entry};
+ghost use Rattle.plan_check.specs.work.Placing.{ArePlaced, HasPut, first_of, order_of, past_of, place_at, slot};
+ghost use Rattle.plan_check.specs.work.Ranking.{AreRanked};
 
 use crate::Entry;
 use pg_base::RelSet;

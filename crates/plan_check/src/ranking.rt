@@ -3,7 +3,7 @@
 ghost use Rattle.std.specs.Prelude.{◌≤◌, IfOk, OnOk, length};
 ghost use Rattle.std.specs.List.Sorted.{IsPermutation};
 ghost use Rattle.plan_check.specs.Limit.{MOST_ENTRIES};
-ghost use Rattle.plan_check.specs.Ranking.{AreFirstPlaces, AreRanked};
+ghost use Rattle.plan_check.specs.work.Ranking.{AreFirstPlaces, AreRanked};
 
 use crate::Entry;
 use pg_base::Memory;

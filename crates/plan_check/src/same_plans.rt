@@ -1,7 +1,7 @@
 //! Plans.
 
 ghost use Rattle.std.specs.Prelude.{◌≡◌, ◌↔◌, IsTrue};
-ghost use Rattle.plan_tree.specs.Views.{plan};
+ghost use Rattle.plan_tree.specs.work.Views.{plan};
 
 use crate::same_bits::is_same_tree;
 use plan_tree::Plan;

@@ -6,7 +6,8 @@ use Rattle.std.specs.Cmp.{Equal-is}
 use Rattle.pg_value.specs.declared.operators.Family.{Family}
 use Rattle.pg_value.specs.declared.value.Value.{Value}
 use Rattle.pg_value.specs.declared.value.Value.TheVariants.{Null, Int, Bool as Flag, Text as String}
-use Rattle.pg_value.specs.Order.{value_order, compared}
+use Rattle.pg_value.specs.Order.{value_order}
+use Rattle.pg_value.specs.work.Order.{compared}
 use Rattle.pg_value.proofs.OrderLaws.{value_total}
 use Rattle.pg_expr.specs.declared.operand.ColRef.{ColRef}
 use Rattle.eq_classes.specs.Equality.{is_column, are_equal}

@@ -30,7 +30,7 @@ use Rattle.sql_query.specs.Meaning.{all_true}
 use Rattle.plan_tree.specs.Entries.{entry_rows}
 use Rattle.plan_tree.specs.Run.{at_which, index_scan_conditions, clauses_at, arm_holds, some_holds, holds, all_hold_row, held}
 use Rattle.plan_laws.proofs.PermLemmas.{Perm, none, keep, turn, join}
-use Rattle.plan_laws.specs.Meant.{holds_at, tested, meant_rows}
+use Rattle.plan_laws.specs.work.Meant.{holds_at, tested, meant_rows}
 use Rattle.plan_laws.proofs.EachLemmas.{each_contained, each_joined, each_mapped, each_masked, each_taken, each_weaker}
 use Rattle.plan_laws.proofs.FilterLemmas.{filter_follows, filter_alike}
 use Rattle.plan_laws.proofs.PredicateLemmas.{predicates_follow}

@@ -6,7 +6,8 @@ use Rattle.pg_expr.specs.Typed.{IsTyped}
 use Rattle.catalog.specs.Range.{type_in}
 use Rattle.eq_classes.specs.Clauses.{Set, one}
 use Rattle.eq_classes.specs.Parts.{union, is_all, is_base, is_join, is_param, is_join_param}
-use Rattle.eq_classes.specs.Holding.{AgreeOn, AreApart, Fits, IsWithin}
+use Rattle.eq_classes.specs.Holding.{AreApart, IsWithin}
+use Rattle.eq_classes.specs.work.Holding.{AgreeOn, Fits}
 use Rattle.eq_classes.proofs.WrittenLemmas.{in_typed}
 use Rattle.plan_laws.proofs.LocalLemmas.{all_reads, base_reads, param_reads}
 use Rattle.plan_laws.proofs.PartLemmas.{base_at, local_at, params_at, split_at}
@@ -16,7 +17,7 @@ use Rattle.sql_query.specs.WellBound.{given_with, IsWellBound}
 use Rattle.sql_query.specs.Worlds.{World, IsWorld}
 use Rattle.plan_laws.proofs.FitsLemmas.{values_fit}
 use Rattle.plan_tree.specs.Entries.{cell}
-use Rattle.plan_laws.specs.Meant.{HaveSameRows, holds_at}
+use Rattle.plan_laws.specs.work.Meant.{HaveSameRows, holds_at}
 use Rattle.plan_laws.proofs.TupleLemmas.{row_at}
 
 module _ (w : World) (q : Query) where

@@ -19,7 +19,8 @@ use Rattle.pg_expr.specs.declared.operand.Operand.{Operand}
 use Rattle.pg_expr.specs.declared.operand.Operand.TheVariants.{Col, Lit}
 use Rattle.pg_expr.specs.Columns.{some_column}
 use Rattle.pg_expr.specs.Cond.{Cond, compare, is_null, is_not_null, bool_col, const, all_of, any_of, negation, Conds, no_conds, cond_and}
-use Rattle.predicate_proof.specs.Atoms.{is_all, is_any, is_atom, SameSide, SameAtom, has_column_number, operator_family, IsFamilyValue, plain, implication_cell, CellHolds, TableGives, ComparisonGives}
+use Rattle.predicate_proof.specs.Atoms.{is_any, is_atom, SameSide, SameAtom, has_column_number, operator_family, IsFamilyValue, plain, implication_cell, CellHolds, TableGives}
+use Rattle.predicate_proof.specs.work.Atoms.{is_all, ComparisonGives}
 use Rattle.predicate_proof.specs.Derivation.{Implies, ImpliesAll, no_part, part_and, ImpliesSome, this_part, later_part, AllImply, no_arm, arm_and, SomeImplies, this_clause, later_clause, EachImpliesSome, no_choice, choice_and}
 use Rattle.predicate_proof.proofs.Inversion.{all-each, all-arms, all-never, any-arms, any-some, any-parts, any-never, atom-arms, atom-parts, atom-same, atom-comparison}
 use Rattle.predicate_proof.proofs.Weight.{weight, weight_all}

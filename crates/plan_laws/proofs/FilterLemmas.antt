@@ -8,7 +8,7 @@ use Rattle.pg_value.specs.Truths.{is_true}
 use Rattle.pg_expr.specs.declared.operand.ColRef.{ColRef}
 use Rattle.pg_expr.specs.Truths.{truth_at}
 use Rattle.eq_classes.specs.Clauses.{Clause}
-use Rattle.eq_classes.specs.Holding.{hold}
+use Rattle.eq_classes.specs.work.Holding.{hold}
 use Rattle.plan_tree.specs.index_match_Numbered.{numbered, those, conditions_of}
 use Rattle.sql_query.specs.Queries.{Query}
 use Rattle.sql_query.specs.Worlds.{World}

@@ -12,7 +12,7 @@ use Rattle.pg_value.specs.Types.{IsOfType}
 use Rattle.sql_query.specs.catalog_Contents.{TableDef, no_table, table_at}
 use Rattle.sql_query.specs.catalog_Range.{relation_at, type_in}
 use Rattle.heap.specs.Stored.{Stored, Values, IsColumnValue}
-use Rattle.eq_classes.specs.Holding.{Fits}
+use Rattle.eq_classes.specs.work.Holding.{Fits}
 use Rattle.sql_query.specs.Queries.{Query}
 use Rattle.sql_query.specs.Tuples.{Tuple, row_of, rows_of_relation, value_at}
 use Rattle.sql_query.specs.catalog_Indexes.{no_column}

@@ -11,7 +11,8 @@ use Rattle.catalog.specs.Indexes.{Index}
 use Rattle.catalog.specs.Range.{Range}
 use Rattle.sql_query.specs.Queries.{Query, width}
 use Rattle.plan_tree.specs.Bitmaps.{IsIndexOn, table_of_relation}
-use Rattle.plan_laws.specs.Moved.{over, is_read}
+use Rattle.plan_laws.specs.Moved.{over}
+use Rattle.plan_laws.specs.work.Moved.{is_read}
 use Rattle.plan_laws.proofs.ListLemmas.{not-read}
 
 -- an index on the table of a number

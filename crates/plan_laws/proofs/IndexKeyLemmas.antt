@@ -40,7 +40,7 @@ use Rattle.plan_tree.specs.Keys.{scan_keys}
 use Rattle.plan_tree.specs.Plans.{is_empty}
 use Rattle.plan_tree.specs.Run.{in_scan_direction, index_scan_conditions, clauses_at, index_rows, tuples}
 use Rattle.plan_tree.specs.Space.{IsIndexScan}
-use Rattle.plan_laws.specs.Meant.{holds_at}
+use Rattle.plan_laws.specs.work.Meant.{holds_at}
 use Rattle.plan_laws.proofs.ClauseLemmas.{one_is_base, local_base}
 use Rattle.plan_laws.proofs.EachLemmas.{each_made}
 use Rattle.pg_base.proofs.ListLemmas.{filter-passes}

@@ -20,7 +20,7 @@ use Rattle.heap.specs.Stored.{Values}
 use Rattle.eq_classes.specs.Equality.{is_column}
 use Rattle.eq_classes.specs.Classes.{is_family, is_in, in_family, has_member}
 use Rattle.eq_classes.specs.Clauses.{one, ClassTable, first_in}
-use Rattle.eq_classes.specs.Holding.{HasClass}
+use Rattle.eq_classes.specs.work.Holding.{HasClass}
 use Rattle.eq_classes.specs.Listing.{blank, class_at}
 use Rattle.eq_classes.proofs.EqualLemmas.{family_is}
 use Rattle.eq_classes.proofs.ListLemmas.{contains_from_in, in_at}

@@ -5,12 +5,14 @@ use Rattle.plan_tree.specs.catalog_Contents.{Contents}
 use Rattle.plan_tree.specs.sql_query_Queries.{Query}
 use Rattle.plan_tree.specs.pathkeys_Keys.{Keys}
 use Rattle.plan_tree.specs.Plans.{Plan, seq, index, index_only, bitmap, sort, nest, merge, is_sort}
-use Rattle.plan_tree.specs.Costs.{HaveRows}
+use Rattle.plan_tree.specs.work.Costs.{HaveRows}
 use Rattle.plan_tree.specs.Space.{IsBuilt}
-use Rattle.plan_tree.specs.Least.{IsAdmissible, StandsFor}
+use Rattle.plan_tree.specs.Least.{IsAdmissible}
+use Rattle.plan_tree.specs.work.Least.{StandsFor}
 use Rattle.plan_tree.proofs.BoundLemmas.{merge-most, nest-most, sort-most}
 use Rattle.plan_tree.proofs.DominationLemmas.{dominates-trans, merge-dominates, nest-dominates, plain-stands, sort-stands}
-use Rattle.plan_laws.specs.Closed.{IsClosed, IsKeptSide, IsUndercut}
+use Rattle.plan_laws.specs.Closed.{IsKeptSide, IsUndercut}
+use Rattle.plan_laws.specs.work.Closed.{IsClosed}
 
 module _ (c : Contents) (q : Query) (Kept : Plan → Type 0) (some : HaveRows c q) (closed : IsClosed c q Kept) where
   -- a kept plan, or a sort of one, that may stand in the place of a plan

@@ -9,7 +9,7 @@ use Rattle.pg_value.specs.declared.operators.Family.TheVariants as families
 use Rattle.pg_value.specs.declared.value.SqlType.{SqlType}
 use Rattle.pg_value.specs.declared.value.SqlType.TheVariants.{Int2, Int4, Int8, Text as TextType, Bool as BoolType}
 use Rattle.pg_value.specs.ColumnOrder.{column_order}
-use Rattle.pg_value.specs.Order.{IsOfFamily}
+use Rattle.pg_value.specs.work.Order.{IsOfFamily}
 use Rattle.pg_value.specs.Types.{IsOfType}
 use Rattle.opfamily.specs.Answers.{default_family_of}
 use Rattle.pg_expr.specs.declared.operand.ColRef.{ColRef}
@@ -32,7 +32,7 @@ use Rattle.sql_query.specs.WellBound.{given_with, IsColumnOf, IsDirected, IsWell
 use Rattle.sql_query.specs.Worlds.{World, IsWorld}
 use Rattle.pathkeys.specs.Keys.{class_of, order_class, is_constant}
 use Rattle.pathkeys.specs.Sorted.{class_order, order_at}
-use Rattle.plan_laws.specs.Meant.{holds_at}
+use Rattle.plan_laws.specs.work.Meant.{holds_at}
 use Rattle.plan_laws.proofs.ClauseLemmas.{typed}
 use Rattle.plan_laws.proofs.IndexOrderLemmas.{ClassOf, class_found}
 use Rattle.plan_laws.proofs.KeyLemmas.{find_more}

@@ -9,7 +9,7 @@ use Rattle.sql_query.specs.Queries.{Query, width}
 use Rattle.sql_query.specs.Tuples.{Tuple, row_of, one_row, beside, merged, value_at}
 use Rattle.sql_query.specs.WellBound.{IsWellBound}
 use Rattle.sql_query.specs.Worlds.{World, IsWorld}
-use Rattle.plan_laws.specs.Meant.{holds_at, numbers_of, tuples_in, meant, tested, meant_rows, meant_scan, joined_with}
+use Rattle.plan_laws.specs.work.Meant.{holds_at, numbers_of, tuples_in, meant, tested, meant_rows, meant_scan, joined_with}
 use Rattle.plan_laws.proofs.ClauseLemmas.{IsOfQuery, merged_left, merged_right, all_splits, params_split, one_is_base, local_all, local_base, local_param}
 use Rattle.plan_laws.proofs.EachLemmas.{each_mapped}
 use Rattle.pg_base.proofs.ListLemmas.{filter-passes}

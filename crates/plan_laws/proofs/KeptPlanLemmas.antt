@@ -20,15 +20,16 @@ use Rattle.pathkeys.specs.Keys.{Keys, covers, order_keys}
 use Rattle.sql_query.specs.Queries.{Query, width}
 use Rattle.plan_tree.specs.Plans.{Plan, seq, index, index_only, bitmap, sort, nest, merge, BitTree, leaf, all_hold, some_arm, BitTrees, no_trees, tree_and}
 use Rattle.plan_tree.specs.Bitmaps.{IsBitTree, condition_at, uses}
-use Rattle.plan_tree.specs.Costable.{AreCostableTrees, IsCostable, IsCostableTree, IsMatchedBy}
+use Rattle.plan_tree.specs.work.Costable.{AreCostableTrees, IsCostable, IsCostableTree, IsMatchedBy}
 use Rattle.plan_tree.specs.Costs.{cost, price}
 use Rattle.plan_tree.specs.Keys.{keys_of}
 use Rattle.plan_tree.specs.Least.{IsAdmissible, IsBestPlan, HasNoPlan}
 use Rattle.plan_tree.specs.Space.{HasKeys, IsBuilt, IsFinished, IsIndexScan, IsMerge, IsSameSet, MeetsOrder, may_go, others_named}
 use Rattle.plan_tree.proofs.CostableLemmas.{built-costable}
 use Rattle.plan_tree.proofs.ElementLemmas.{equal-number, same-number}
-use Rattle.plan_laws.specs.Fewer.{HasRoom, Keeps, KeepsRead, reads, some_reads, tree_reads}
-use Rattle.plan_laws.specs.Moved.{HasPrice, moved, over}
+use Rattle.plan_laws.specs.work.Fewer.{HasRoom, Keeps, KeepsRead, reads, some_reads, tree_reads}
+use Rattle.plan_laws.specs.Moved.{HasPrice, over}
+use Rattle.plan_laws.specs.work.Moved.{moved}
 use Rattle.plan_laws.proofs.HiddenLemmas.{is_kept, left, left-read, on-all, on-kept, on-left, stays-at}
 use Rattle.plan_laws.proofs.IndexLemmas.{usable-same}
 use Rattle.plan_laws.proofs.KeptTreeLemmas.{on-tree, or-cases, tree-all, tree-left, tree-stays}

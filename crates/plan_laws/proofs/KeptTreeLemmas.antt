@@ -16,8 +16,9 @@ use Rattle.plan_tree.specs.Plans.{BitTree, leaf, all_hold, some_arm, BitTrees, n
 use Rattle.plan_tree.specs.Bitmaps.{Element, by_index, by_clause, ArePicked, AreElements, AreMatchedArms, MOST_ELEMENTS, IsIndexOn, MatchesArm, IsBitTree, IsTreeOver, IsElement, HasArms, HaveArms, element_of, elements_of, condition_at, candidates, table_of_relation}
 use Rattle.plan_tree.proofs.CostableLemmas.{in-contained}
 use Rattle.plan_tree.proofs.ElementLemmas.{same-number}
-use Rattle.plan_laws.specs.Fewer.{HasRoom, Keeps, some_reads, tree_reads}
-use Rattle.plan_laws.specs.Moved.{over, tree_moved, trees_moved}
+use Rattle.plan_laws.specs.work.Fewer.{HasRoom, Keeps, some_reads, tree_reads}
+use Rattle.plan_laws.specs.Moved.{over}
+use Rattle.plan_laws.specs.work.Moved.{tree_moved, trees_moved}
 use Rattle.plan_laws.proofs.HiddenLemmas.{is_kept, left, left-listed, on-all, on-kept, on-left, stays-at}
 use Rattle.plan_laws.proofs.IndexLemmas.{conditions-same, usable-same}
 use Rattle.plan_laws.proofs.PickedLemmas.{Among, all-pass, from-filter, in-contains, in-same, passes-test, same-part}

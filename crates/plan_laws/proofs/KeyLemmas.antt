@@ -7,7 +7,7 @@ use Rattle.std.proofs.lemmas.Bool.{or_cases, and_parts, true≢false}
 use Rattle.pg_expr.specs.declared.operand.ColRef.{ColRef}
 use Rattle.eq_classes.specs.Clauses.{Set, ClassTable, first_in, has_constant}
 use Rattle.eq_classes.specs.Parts.{is_joining, has_in, joining_from}
-use Rattle.eq_classes.specs.Holding.{HasClass}
+use Rattle.eq_classes.specs.work.Holding.{HasClass}
 use Rattle.eq_classes.specs.Listing.{blank, class_at}
 use Rattle.eq_classes.proofs.ListLemmas.{contains_from_in, in_at}
 use Rattle.sql_query.specs.Queries.{Query}

@@ -7,11 +7,12 @@ use Rattle.plan_tree.specs.sql_query_Queries.{Query}
 use Rattle.plan_tree.specs.pathkeys_Keys.{Keys, covers, order_keys}
 use Rattle.plan_tree.specs.Plans.{Plan, seq, index, index_only, bitmap, sort, nest, merge, is_sort}
 use Rattle.plan_tree.specs.Keys.{keys_of}
-use Rattle.plan_tree.specs.Costs.{cost, price, HaveRows}
+use Rattle.plan_tree.specs.Costs.{cost, price}
+use Rattle.plan_tree.specs.work.Costs.{HaveRows}
 use Rattle.plan_tree.specs.Space.{IsBuilt, MeetsOrder, IsFinished}
 use Rattle.plan_tree.specs.Least.{IsAdmissible, IsLeast}
 use Rattle.plan_tree.proofs.BoundLemmas.{sort-most, startup-most}
-use Rattle.plan_laws.specs.Useful.{Suffices, IsBelow, IsClosedBelow, IsLeastKept}
+use Rattle.plan_laws.specs.work.Useful.{Suffices, IsBelow, IsClosedBelow, IsLeastKept}
 use Rattle.plan_laws.proofs.UsefulLemmas.{child-below, enough, price-most, sort-stands}
 
 module _ (c : Contents) (q : Query) (every : Bool) where

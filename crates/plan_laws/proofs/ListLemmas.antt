@@ -10,7 +10,8 @@ use Rattle.catalog.specs.Contents.{TableDef, NamedIndex, index_at, numbers_from}
 use Rattle.catalog.specs.Range.{Range}
 use Rattle.sql_query.specs.Queries.{Query, width}
 use Rattle.plan_tree.specs.Bitmaps.{IsIndexOn, table_of_relation}
-use Rattle.plan_laws.specs.Moved.{over, is_read, Moves, IsFrom}
+use Rattle.plan_laws.specs.Moved.{over}
+use Rattle.plan_laws.specs.work.Moved.{is_read, Moves, IsFrom}
 
 -- a map of numbers as one of index numbers
 abbrev pub no : (ℕ → ℕ) → IndexNo → IndexNo

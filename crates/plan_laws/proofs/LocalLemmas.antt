@@ -13,7 +13,7 @@ use Rattle.eq_classes.specs.Equality.{is_column}
 use Rattle.eq_classes.specs.Classes.{Class}
 use Rattle.eq_classes.specs.Clauses.{Set, one, first_in, is_first, ClauseSource, by_conjunct, by_class, Clause, clause, equals, equals_constant, conjunct_clauses, constant_clauses, inner_clause, inner_clauses, pair_clause, pair_clauses, has_constant, class_clauses, clauses_from, clause_list}
 use Rattle.eq_classes.specs.Parts.{union, has_column, is_inside, names_some, is_lowest, are_lowest, is_all_from, is_all, is_base, is_join, is_param, is_left_out, is_join_param}
-use Rattle.eq_classes.specs.Holding.{hold}
+use Rattle.eq_classes.specs.work.Holding.{hold}
 use Rattle.eq_classes.proofs.ListLemmas.{IsIn, Before, in_parts, in_filter, before_filter, earlier_in, later_in, some_same}
 use Rattle.eq_classes.proofs.HoldLemmas.{in_map, in_flat_map, in_each_pair, hold_at, hold_from}
 use Rattle.eq_classes.proofs.ClassHoldLemmas.{same_is, column_self}

@@ -11,7 +11,7 @@ use Rattle.pg_expr.specs.declared.operand.ColRef.{ColRef}
 use Rattle.pg_expr.specs.Cond.{Cond, conds_of}
 use Rattle.pg_expr.specs.Truths.{truth_at, truth_of_all}
 use Rattle.eq_classes.specs.Clauses.{Set, one}
-use Rattle.eq_classes.specs.Holding.{hold}
+use Rattle.eq_classes.specs.work.Holding.{hold}
 use Rattle.eq_classes.specs.Parts.{is_all, is_base}
 use Rattle.eq_classes.proofs.TableLemmas.{where_at}
 use Rattle.plan_laws.proofs.PartLemmas.{base_at}

@@ -15,7 +15,7 @@ use Rattle.eq_classes.specs.Listing.{class_at}
 use Rattle.sql_query.specs.Worlds.{World}
 use Rattle.sql_query.specs.Tuples.{Tuple, value_at}
 use Rattle.sql_query.specs.Meaning.{item_order, IsOrdered}
-use Rattle.plan_laws.specs.Meant.{holds_at}
+use Rattle.plan_laws.specs.work.Meant.{holds_at}
 use Rattle.plan_laws.proofs.FilterLemmas.{filter_follows}
 use Rattle.plan_laws.proofs.EachLemmas.{each_of, each_snoc}
 use Rattle.plan_laws.proofs.TotalLemmas.{IsUp, up_is_in_order}

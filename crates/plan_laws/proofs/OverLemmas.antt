@@ -11,7 +11,7 @@ use Rattle.eq_classes.proofs.ColumnLemmas.{clause_passes}
 use Rattle.eq_classes.proofs.ListLemmas.{IsIn, all_at, all_from, in_from_contains}
 use Rattle.eq_classes.proofs.TypedLemmas.{clause_typed}
 use Rattle.eq_classes.proofs.WrittenLemmas.{in_columns, in_typed}
-use Rattle.path_cost.specs.Columns.{is_column_in, IsOver}
+use Rattle.path_cost.specs.work.Columns.{is_column_in, IsOver}
 use Rattle.sql_query.specs.Queries.{Query, all_of_query}
 use Rattle.sql_query.specs.WellBound.{given_with, IsColumnOf, IsWellBound, NamesOnly}
 

@@ -2,14 +2,15 @@
 use Rattle.std.proofs.Common.{◌≡◌, ℕ, zero, suc, ◌<◌, ◌≤◌, length, ◌⊎◌, inl, inr, ⊎_elim, Bool, true, false, ◌&&◌, List, All, AllPairs, slice_index_or, Option, Some, None, refl, sym, ap, ◌∙◌, subst, arith}
 use Rattle.std.proofs.lemmas.Bool.{cases_Bool, cases_lt, and_parts}
 use Rattle.pg_value.specs.declared.value.Value.{Value}
-use Rattle.pg_value.specs.Order.{compared}
+use Rattle.pg_value.specs.work.Order.{compared}
 use Rattle.pg_expr.specs.declared.operand.ColRef.{ColRef}
 use Rattle.pg_expr.specs.Typed.{IsTyped}
 use Rattle.eq_classes.specs.Equality.{is_column, are_equal}
 use Rattle.eq_classes.specs.Classes.{Premises, Class, is_family, has_member, Mention, is_in, first_mention, IsClass, AreClasses}
 use Rattle.eq_classes.specs.Clauses.{Set, one, first_in, has_constant, Clause, clause_list, ClassTable}
 use Rattle.eq_classes.specs.Parts.{union, is_all, is_base, is_join, is_param, is_join_param}
-use Rattle.eq_classes.specs.Holding.{hold, Fits, IsClassTable, AreApart, IsWithin, AgreeOn, HasClass}
+use Rattle.eq_classes.specs.Holding.{IsClassTable, AreApart, IsWithin}
+use Rattle.eq_classes.specs.work.Holding.{hold, Fits, AgreeOn, HasClass}
 use Rattle.eq_classes.specs.Listing.{class_at}
 use Rattle.eq_classes.proofs.ListLemmas.{IsIn, in_at, in_from_contains, all_at, found_in, found_passes}
 use Rattle.eq_classes.proofs.EqualLemmas.{column_is, family_is, equal_sym, equal_trans}

@@ -29,8 +29,9 @@ use Rattle.plan_tree.specs.Costs.{asked, cost, estimate, join_operators, merge_o
 use Rattle.plan_tree.specs.Keys.{keys_of}
 use Rattle.plan_tree.specs.Space.{IsSameSet, IsEmpty, others_named, AreSides, IsNest, may_go, IsIndexScan, IsBitmapScan, IsMergeList, HasKeys, IsMerge, IsBuilt, MeetsOrder, IsFinished}
 use Rattle.plan_tree.specs.Least.{IsAdmissible, IsBestPlan}
-use Rattle.plan_laws.specs.Fewer.{Keeps}
-use Rattle.plan_laws.specs.Moved.{over, moved, tree_moved}
+use Rattle.plan_laws.specs.work.Fewer.{Keeps}
+use Rattle.plan_laws.specs.Moved.{over}
+use Rattle.plan_laws.specs.work.Moved.{moved, tree_moved}
 use Rattle.plan_laws.proofs.RunLemmas.{kept-by-over, runs-over, set-rows-over}
 use Rattle.plan_laws.proofs.IndexLemmas.{keys-same, scan-cost-same, usable-same}
 use Rattle.plan_laws.proofs.TreeLemmas.{tree-on, uses-same, part-there}

@@ -27,7 +27,7 @@ use Rattle.catalog.specs.Indexes.{no_column}
 use Rattle.catalog.specs.Range.{relation_at}
 use Rattle.eq_classes.specs.Clauses.{one, Clause}
 use Rattle.eq_classes.specs.Parts.{is_base, has_column}
-use Rattle.eq_classes.specs.Holding.{hold}
+use Rattle.eq_classes.specs.work.Holding.{hold}
 use Rattle.sql_query.specs.Queries.{Query, width}
 use Rattle.sql_query.specs.Tuples.{Tuple, row_of, one_row, beside, value_at, rows_of_relation}
 use Rattle.sql_query.specs.Worlds.{World, IsWorld}
@@ -37,7 +37,7 @@ use Rattle.plan_tree.specs.index_match_Numbered.{numbered, conditions_of, base}
 use Rattle.plan_tree.specs.index_match_Usable.{IsUsable, IsUsableBy}
 use Rattle.plan_tree.specs.Bitmaps.{IsIndexOn}
 use Rattle.plan_tree.specs.Entries.{cell, meets_predicate}
-use Rattle.plan_laws.specs.Meant.{holds_at}
+use Rattle.plan_laws.specs.work.Meant.{holds_at}
 use Rattle.plan_laws.proofs.TupleLemmas.{row_at}
 
 true_from : (t : Truth) → is_true t ≡ true → t ≡ True

@@ -6,8 +6,9 @@ use Rattle.std.specs.Prelude.{filter}
 use Rattle.pg_base.specs.declared.numbers.IndexNo.{IndexNo}
 use Rattle.catalog.specs.Contents.{TableDef, NamedIndex, no_index}
 use Rattle.sql_query.specs.Queries.{Query}
-use Rattle.plan_laws.specs.Fewer.{Keeps}
-use Rattle.plan_laws.specs.Moved.{over, is_read, moved, HasPrice, added_from}
+use Rattle.plan_laws.specs.work.Fewer.{Keeps}
+use Rattle.plan_laws.specs.Moved.{over, HasPrice, added_from}
+use Rattle.plan_laws.specs.work.Moved.{is_read, moved}
 use Rattle.plan_laws.proofs.ListLemmas.{no, read-alone}
 use Rattle.plan_laws.proofs.TreeLemmas.{keeps}
 use Rattle.plan_laws.proofs.PlanLemmas.{admissible-there, best-there, finished-there, price-there}

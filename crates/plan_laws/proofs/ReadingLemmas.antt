@@ -18,7 +18,7 @@ use Rattle.plan_tree.specs.Entries.{entry_rows}
 use Rattle.plan_tree.specs.Plans.{Plan, seq, index, index_only, bitmap, sort, nest, merge, scan_given, param_in, param_of, is_empty}
 use Rattle.plan_tree.specs.Run.{in_scan_direction, index_rows, joined_tuples, run, sorted_tuples}
 use Rattle.plan_tree.specs.Space.{IsBuilt}
-use Rattle.plan_laws.specs.Meant.{HaveSameRows, holds_at, tested}
+use Rattle.plan_laws.specs.work.Meant.{HaveSameRows, holds_at, tested}
 use Rattle.plan_laws.proofs.BitmapLemmas.{bitmap_means}
 use Rattle.plan_laws.proofs.ClauseLemmas.{local_base, local_param}
 use Rattle.plan_laws.proofs.FilterLemmas.{filter_alike, hold_either, those_hold}

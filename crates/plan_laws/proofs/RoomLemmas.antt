@@ -18,7 +18,7 @@ use Rattle.index_match.specs.Usable.{IsUsable, IsUsableBy}
 use Rattle.sql_query.specs.Queries.{Query, width}
 use Rattle.plan_tree.specs.Bitmaps.{ArePicked, none_left, picked, passed, AreElements, Element, by_clause, by_index, IsElement, IsIndexOn, IsMatchedOr, MatchesArm, MOST_ELEMENTS, condition_at, is_or, table_of_relation}
 use Rattle.plan_tree.proofs.ElementLemmas.{condition-here}
-use Rattle.plan_laws.specs.Fewer.{HasRoom, or_clauses}
+use Rattle.plan_laws.specs.work.Fewer.{HasRoom, or_clauses}
 use Rattle.plan_laws.proofs.DecisionLemmas.{IsDecided, alike, always, both, either, implication-decided, never, same-numbers, three, told}
 use Rattle.plan_laws.proofs.PickedLemmas.{few-picked, pick-all}
 

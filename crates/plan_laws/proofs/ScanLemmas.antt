@@ -42,7 +42,7 @@ use Rattle.plan_tree.specs.Plans.{GivenScan, scan_given, is_empty, empty}
 use Rattle.plan_tree.specs.Bitmaps.{IsIndexOn}
 use Rattle.plan_tree.specs.Entries.{meets_predicate, entry, ordered, entries_over, entry_rows}
 use Rattle.plan_tree.specs.Run.{in_scan_direction, index_scan_conditions, clauses_at, index_rows}
-use Rattle.plan_laws.specs.Meant.{holds_at, numbers_of, meant, tested, meant_rows, meant_scan}
+use Rattle.plan_laws.specs.work.Meant.{holds_at, numbers_of, meant, tested, meant_rows, meant_scan}
 use Rattle.plan_laws.proofs.ClauseLemmas.{one_is_base, local_base}
 use Rattle.plan_laws.proofs.EachLemmas.{each_of}
 use Rattle.plan_laws.proofs.FilterLemmas.{filter_follows, filter_alike, those_hold, hold_either, hold_alike}

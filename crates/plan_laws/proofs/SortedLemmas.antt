@@ -26,9 +26,9 @@ use Rattle.pathkeys.specs.Sorted.{class_order, order_at}
 use Rattle.plan_tree.specs.Keys.{keys_of, scan_keys}
 use Rattle.plan_tree.specs.Plans.{Plan, seq, index, index_only, bitmap, sort, nest, merge, set_of, is_sort, is_empty, joins}
 use Rattle.plan_tree.specs.Run.{run, joined_tuples, index_rows, tuples}
-use Rattle.plan_tree.specs.Sorted.{AreSorted}
+use Rattle.plan_tree.specs.work.Sorted.{AreSorted}
 use Rattle.plan_tree.specs.Space.{IsBuilt, IsIndexScan, HasKeys}
-use Rattle.plan_laws.specs.Meant.{HaveSameRows, holds_at, meant}
+use Rattle.plan_laws.specs.work.Meant.{HaveSameRows, holds_at, meant}
 use Rattle.plan_laws.proofs.ClauseLemmas.{IsOfQuery, agree, merged_left}
 use Rattle.plan_laws.proofs.GivingLemmas.{of_query, whole_means}
 use Rattle.plan_laws.proofs.JoinLemmas.{each_meant}

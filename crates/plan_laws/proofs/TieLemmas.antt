@@ -13,13 +13,13 @@ use Rattle.eq_classes.specs.Equality.{are_equal}
 use Rattle.eq_classes.specs.Classes.{Class, has_member}
 use Rattle.eq_classes.specs.Clauses.{Set, has_constant}
 use Rattle.eq_classes.specs.Parts.{is_all}
-use Rattle.eq_classes.specs.Holding.{HasClass}
+use Rattle.eq_classes.specs.work.Holding.{HasClass}
 use Rattle.plan_laws.proofs.PartLemmas.{constant_at, tie_at}
 use Rattle.sql_query.specs.Queries.{Query}
 use Rattle.sql_query.specs.Tuples.{Tuple, value_at}
 use Rattle.sql_query.specs.WellBound.{given_with, IsWellBound}
 use Rattle.sql_query.specs.Worlds.{World, IsWorld}
-use Rattle.plan_laws.specs.Meant.{holds_at}
+use Rattle.plan_laws.specs.work.Meant.{holds_at}
 use Rattle.plan_laws.proofs.ClauseLemmas.{fits, typed}
 
 -- values that are equal tie in every direction, and values that tie in one direction tie in all

@@ -23,8 +23,9 @@ use Rattle.plan_tree.specs.Costs.{part_of, parts_of_all, parts_of_arms, together
 use Rattle.plan_tree.proofs.ElementLemmas.{is-listed, listed-on}
 use Rattle.plan_tree.proofs.CostableLemmas.{In, in-taken, in-contained, in-masked, in-picked, index-listed}
 use Rattle.plan_tree.proofs.FrontLemmas.{contains-mapped}
-use Rattle.plan_laws.specs.Fewer.{Keeps}
-use Rattle.plan_laws.specs.Moved.{over, Moves, tree_moved, trees_moved, element_moved}
+use Rattle.plan_laws.specs.work.Fewer.{Keeps}
+use Rattle.plan_laws.specs.Moved.{over}
+use Rattle.plan_laws.specs.work.Moved.{Moves, tree_moved, trees_moved, element_moved}
 use Rattle.plan_laws.proofs.IndexLemmas.{conditions-same, usable-same, usable-back, leaf-same, arm-same}
 
 module _ (c : Contents) (q : Query) (r : ℕ) where

@@ -9,7 +9,8 @@ use Rattle.std.proofs.lemmas.Bool.{or_cases, and_parts, and_from, cases_lt, eqb-
 use Rattle.pg_expr.specs.declared.operand.ColRef.{ColRef}
 use Rattle.plan_tree.specs.catalog_Contents.{Contents}
 use Rattle.cost_rules.specs.declared.pair.Pair.{Pair}
-use Rattle.cost_rules.specs.Costs.{IsAtMost, price_of}
+use Rattle.cost_rules.specs.Costs.{price_of}
+use Rattle.cost_rules.specs.work.Costs.{IsAtMost}
 use Rattle.cost_rules.proofs.RisingLemmas.{ceil-least, price-rises}
 use Rattle.plan_tree.specs.sql_query_Queries.{Query, all_of_query}
 use Rattle.plan_tree.specs.sql_query_window_Window.{Window}
@@ -22,7 +23,8 @@ use Rattle.plan_tree.specs.pathkeys_Keys.{Keys, covers}
 use Rattle.plan_tree.specs.pathkeys_CoveringLemmas.{covers-refl, covers-trans}
 use Rattle.plan_tree.specs.Plans.{Plan, seq, index, index_only, bitmap, sort, nest, merge, is_sort, set_of}
 use Rattle.plan_tree.specs.Keys.{keys_of}
-use Rattle.plan_tree.specs.Costs.{cost, price_by, asked, query_rows, HaveRows}
+use Rattle.plan_tree.specs.Costs.{cost, price_by, asked, query_rows}
+use Rattle.plan_tree.specs.work.Costs.{HaveRows}
 use Rattle.plan_tree.specs.Space.{IsLike, IsBuilt, IsNest, IsMerge, IsMergeList, HasKeys}
 use Rattle.plan_tree.specs.Least.{Dominates, IsStartupAtMost}
 use Rattle.path_cost.proofs.RunLemmas.{set-some}
@@ -32,7 +34,7 @@ use Rattle.plan_tree.proofs.ReplacingLemmas.{nest-replaced, nest-totals, merge-r
 use Rattle.plan_tree.proofs.WindowLemmas.{startup-from}
 use Rattle.plan_laws.specs.Closed.{IsKeptSide}
 use Rattle.plan_laws.proofs.WithinLemmas.{built-within}
-use Rattle.plan_laws.specs.Useful.{outside, is_open, are_open, IsOfUse, Suffices, StandsIn, IsBelow, HasEnough, IsClosedBelow}
+use Rattle.plan_laws.specs.work.Useful.{outside, is_open, are_open, IsOfUse, Suffices, StandsIn, IsBelow, HasEnough, IsClosedBelow}
 use Rattle.pg_base.proofs.ListLemmas.{any-taken}
 use Rattle.plan_tree.proofs.DominationLemmas.{startup-trans}
 use Rattle.pg_value.proofs.Spelled.{all_weaker as all-weaker}

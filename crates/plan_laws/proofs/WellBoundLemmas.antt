@@ -5,7 +5,7 @@ use Rattle.sql_query.specs.Queries.{Query}
 use Rattle.sql_query.specs.WellBound.{IsWellBound}
 use Rattle.plan_laws.proofs.FewLemmas.{atoms_few}
 use Rattle.plan_laws.proofs.OverLemmas.{clauses_over}
-use Rattle.plan_tree.specs.Reads.{IsOverTables}
+use Rattle.plan_tree.specs.work.Reads.{IsOverTables}
 
 pub bound-over : (c : Contents) (q : Query) → IsWellBound c q → IsOverTables c q
 bound-over c q h =

@@ -1,11 +1,10 @@
 -- Plans that are kept while joins are made of smaller ones, and when they suffice (PostgreSQL,
 -- src/backend/optimizer/README, Join Tree Construction: each larger plan is made of the plans that were kept).
-use Rattle.std.specs.Prelude.{◌≡◌, Bool, true, false}
+use Rattle.std.specs.Prelude.{Bool, true, false}
 use Rattle.plan_tree.specs.catalog_Contents.{Contents}
 use Rattle.plan_tree.specs.sql_query_Queries.{Query}
-use Rattle.plan_tree.specs.Plans.{Plan, seq, index, index_only, bitmap, sort, nest, merge, is_sort}
-use Rattle.plan_tree.specs.Space.{IsBuilt}
-use Rattle.plan_tree.specs.Least.{IsAdmissible, Dominates}
+use Rattle.plan_tree.specs.Plans.{Plan, seq, index, index_only, bitmap, sort, nest, merge}
+use Rattle.plan_tree.specs.Least.{Dominates}
 
 -- a plan reads one relation and no other plan
 abbrev pub is_scan : Plan → Bool
@@ -32,11 +31,3 @@ module _ (c : Contents) (q : Query) (Kept : Plan → Type 0) where
     pub by' : Plan
     pub is_kept : Kept by'
     pub dominates : Dominates c q by' t
-
-  -- kept are plans of the space without a sort on top, some that dominate each admissible scan, and some that dominate
-  -- each admissible join of kept plans
-  pub record IsClosed : Type 0 where
-    pub built : (t : Plan) → Kept t → IsBuilt c q t
-    pub plain : (t : Plan) → Kept t → is_sort t ≡ false
-    pub scans : (t : Plan) → is_scan t ≡ true → IsBuilt c q t → IsAdmissible c q t → IsUndercut t
-    pub joins : (t : Plan) → AreKeptSides t → IsBuilt c q t → IsAdmissible c q t → IsUndercut t

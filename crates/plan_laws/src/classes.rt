@@ -3,7 +3,7 @@
 ghost use Rattle.std.specs.Prelude.{◌≡◌, ◌<◌, ◌≤◌, ◌⊎◌, length, ◌&&◌, ℕ, Bool, true, false, List, All, Some};
 ghost use Rattle.pg_value.specs.declared.value.SqlType.{SqlType};
 ghost use Rattle.pg_value.specs.declared.value.Value.{Value};
-ghost use Rattle.pg_value.specs.Order.{compared};
+ghost use Rattle.pg_value.specs.work.Order.{compared};
 ghost use Rattle.pg_value.specs.Truths.{is_true};
 ghost use Rattle.pg_expr.specs.declared.operand.ColRef.{ColRef};
 ghost use Rattle.pg_expr.specs.Cond.{Cond, conds_of};
@@ -15,7 +15,8 @@ ghost use Rattle.eq_classes.specs.Clauses.{Set, Clause, one, first_in, has_const
 ghost use Rattle.eq_classes.specs.Equality.{are_equal};
 ghost use Rattle.eq_classes.specs.Listing.{class_at};
 ghost use Rattle.eq_classes.specs.Parts.{union, is_all, is_base, is_join, is_param, is_join_param};
-ghost use Rattle.eq_classes.specs.Holding.{hold, Fits, IsClassTable, AreApart, IsWithin, AgreeOn, HasClass};
+ghost use Rattle.eq_classes.specs.Holding.{IsClassTable, AreApart, IsWithin};
+ghost use Rattle.eq_classes.specs.work.Holding.{hold, Fits, AgreeOn, HasClass};
 
 /// The clauses of all relations are True exactly where each condition as written is.
 pub fn clauses_mean_where()

@@ -16,8 +16,9 @@ ghost use Rattle.plan_tree.specs.Costs.{cost, price, scan_cost};
 ghost use Rattle.plan_tree.specs.Least.{IsBestPlan, HasNoPlan};
 ghost use Rattle.plan_tree.specs.Plans.{Plan};
 ghost use Rattle.plan_tree.specs.Space.{IsFinished};
-ghost use Rattle.plan_laws.specs.Fewer.{HasRoom, KeepsRead};
-ghost use Rattle.plan_laws.specs.Moved.{HasPrice, Moves, added_from, is_read, moved, over};
+ghost use Rattle.plan_laws.specs.work.Fewer.{HasRoom, KeepsRead};
+ghost use Rattle.plan_laws.specs.Moved.{HasPrice, added_from, over};
+ghost use Rattle.plan_laws.specs.work.Moved.{Moves, is_read, moved};
 
 /// The estimated rows after conditions read no index.
 pub fn estimates_read_no_index()

@@ -4,12 +4,14 @@
 ghost use Rattle.std.specs.Prelude.{◌≡◌, ◌<◌, ◌↔◌, ℕ, Bool, true, false, List, Contains};
 ghost use Rattle.plan_tree.specs.catalog_Contents.{Contents};
 ghost use Rattle.plan_tree.specs.sql_query_Queries.{Query};
-ghost use Rattle.plan_tree.specs.Costs.{HaveRows, price};
+ghost use Rattle.plan_tree.specs.Costs.{price};
+ghost use Rattle.plan_tree.specs.work.Costs.{HaveRows};
 ghost use Rattle.plan_tree.specs.Least.{Dominates, IsAdmissible, IsLeast};
 ghost use Rattle.plan_tree.specs.Plans.{Plan, is_sort};
 ghost use Rattle.plan_tree.specs.Space.{IsBuilt};
-ghost use Rattle.plan_laws.specs.Closed.{IsClosed, IsUndercut};
-ghost use Rattle.plan_laws.specs.Useful.{HasEnough, IsBelow, IsClosedBelow, IsLeastKept, Suffices};
+ghost use Rattle.plan_laws.specs.Closed.{IsUndercut};
+ghost use Rattle.plan_laws.specs.work.Closed.{IsClosed};
+ghost use Rattle.plan_laws.specs.work.Useful.{HasEnough, IsBelow, IsClosedBelow, IsLeastKept, Suffices};
 
 /// Where some plans dominate each admissible scan and each admissible join of their own, they dominate each admissible
 /// plan of the space that is no sort.

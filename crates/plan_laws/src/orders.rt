@@ -9,7 +9,7 @@ ghost use Rattle.sql_query.specs.Worlds.{World, IsWorld};
 ghost use Rattle.plan_tree.specs.Keys.{keys_of};
 ghost use Rattle.plan_tree.specs.Plans.{Plan, set_of};
 ghost use Rattle.plan_tree.specs.Run.{run};
-ghost use Rattle.plan_tree.specs.Sorted.{AreSorted};
+ghost use Rattle.plan_tree.specs.work.Sorted.{AreSorted};
 ghost use Rattle.plan_tree.specs.Space.{IsBuilt, IsFinished};
 
 /// A plan's tuples are sorted by the plan's keys.

@@ -14,7 +14,7 @@ ghost use Rattle.plan_tree.specs.pathkeys_Keys.{Keys};
 ghost use Rattle.plan_tree.specs.Plans.{Plan, GivenScan, nest, merge, empty, set_of, given_scan, param_of};
 ghost use Rattle.plan_tree.specs.Run.{joined_tuples, run};
 ghost use Rattle.plan_tree.specs.Space.{IsBuilt, IsEmpty, IsFinished, IsPlanOf};
-ghost use Rattle.plan_laws.specs.Meant.{HaveSameRows, holds_at, meant, meant_scan, joined_with};
+ghost use Rattle.plan_laws.specs.work.Meant.{HaveSameRows, holds_at, meant, meant_scan, joined_with};
 
 /// A plan that need not be given rows gives, each as often, the tuples of its set at which all clauses inside the set are
 /// True. A scan that is given the rows of a tuple gives the rows of its relation at which its own clauses and those of

@@ -5,7 +5,7 @@ use Rattle.std.proofs.Math.Seq.{take-append_seam, drop-append_seam}
 use Rattle.std.proofs.lemmas.List.{drop_more, length-append, take_all}
 use Rattle.std.proofs.lemmas.Bool.{and_parts, true≢false}
 use Rattle.std.proofs.lemmas.Bool.Decides.{nat_tests}
-use Rattle.plan_lines.specs.Parts.{lacks}
+use Rattle.plan_lines.specs.work.Parts.{lacks}
 
 differs : (x b : ℕ) → not (x == b) ≡ true → x ≢ b
 differs x b h e = grind (arith, nat_tests, h, e)

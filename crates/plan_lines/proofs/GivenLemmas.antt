@@ -11,7 +11,7 @@ use Rattle.pg_base.specs.Sets.{has}
 use Rattle.pg_base.specs.declared.rel_set.RelSet.{RelSet}
 use Rattle.pg_base.proofs.SetLaws.{same_set}
 use Rattle.catalog.specs.Contents.{Contents}
-use Rattle.certificate_text.specs.Words.{stops}
+use Rattle.certificate_text.specs.work.Words.{stops}
 use Rattle.sql_query.specs.Queries.{Query}
 use Rattle.sql_query.specs.WellBound.{IsWellBound}
 use Rattle.pg_base.specs.declared.numbers.TableNo.{TableNo}
@@ -20,7 +20,7 @@ use Rattle.certificate_entries.specs.explain_Texts.{aliases_in, given_text, with
 use Rattle.certificate_entries.specs.certificate_text_HasText.{IsSetOf}
 use Rattle.pg_base.proofs.NameLemmas.{name-word}
 use Rattle.plan_tree.proofs.ElementLemmas.{same-number}
-use Rattle.plan_lines.specs.Words.{IsWordRead}
+use Rattle.plan_lines.specs.work.Words.{IsWordRead}
 use Rattle.pg_base.proofs.NumberLemmas.{below-next}
 
 abbrev pub AreWords : List (List ℕ) → Type 0

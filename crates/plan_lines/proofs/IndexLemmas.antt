@@ -5,9 +5,9 @@ use Rattle.std.proofs.lemmas.List.{append_cancel_left}
 use Rattle.std.proofs.lemmas.Option.{same_Some}
 use Rattle.pg_base.specs.declared.numbers.IndexNo.{IndexNo}
 use Rattle.catalog.specs.Contents.{Contents, IsLawful, index_name_at}
-use Rattle.catalog.specs.Tables.{HasIndexName, IsFreeIndex}
+use Rattle.catalog.specs.work.Tables.{HasIndexName, IsFreeIndex}
 use Rattle.sql_query.specs.Queries.{Query}
-use Rattle.certificate_text.specs.Words.{stops}
+use Rattle.certificate_text.specs.work.Words.{stops}
 use Rattle.certificate_entries.proofs.NameLemmas.{index-found, index-word}
 use Rattle.plan_lines.specs.HasText.{IsIndexOfQuery}
 use Rattle.plan_lines.proofs.GivenLemmas.{IsRun}

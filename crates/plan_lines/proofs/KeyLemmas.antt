@@ -14,19 +14,19 @@ use Rattle.catalog.specs.Range.{Range, relation_at, table_of}
 use Rattle.eq_classes.specs.Clauses.{Set, first_in}
 use Rattle.eq_classes.specs.Listing.{class_at}
 use Rattle.eq_classes.specs.declared.classes.ClassNo.{ClassNo}
-use Rattle.pathkeys.specs.Finding.{class_numbers}
+use Rattle.pathkeys.specs.work.Finding.{class_numbers}
 use Rattle.pathkeys.specs.Keys.{Keys}
 use Rattle.sql_query.specs.Queries.{Query, width}
 use Rattle.sql_query.specs.WellBound.{IsWellBound}
 use Rattle.plan_tree.specs.Plans.{Plan, seq, index, index_only, bitmap, sort, nest, merge}
-use Rattle.plan_tree.specs.Reads.{ReadsBelow}
+use Rattle.plan_tree.specs.work.Reads.{ReadsBelow}
 use Rattle.plan_tree.proofs.EstimateLemmas.{below-more}
 use Rattle.certificate_entries.specs.plan_laws_WellBoundLemmas.{bound-over}
 use Rattle.certificate_entries.specs.explain_Texts.{column_text, direction_text, family_text, key_text, keys_text, member_text, title, with_commas}
 use Rattle.certificate_entries.specs.certificate_text_HasText.{HasKeysText}
-use Rattle.plan_lines.specs.Kinds.{words}
+use Rattle.plan_lines.specs.work.Kinds.{words}
 use Rattle.plan_lines.specs.HasText.{IsTableOfQuery, IsText}
-use Rattle.plan_lines.specs.TitleKinds.{behind_words, kind_of}
+use Rattle.plan_lines.specs.work.TitleKinds.{behind_words, kind_of}
 
 module _ (c : Contents) (q : Query) where
   column-some : (x : ColRef) → 1 ≤ length (column_text c q x)

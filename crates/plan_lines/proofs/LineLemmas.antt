@@ -7,7 +7,7 @@ use Rattle.std.proofs.lemmas.Bool.Decides.{nat_tests}
 use Rattle.std.proofs.lemmas.List.{append_assoc}
 use Rattle.pg_base.specs.Names.{is_in_name}
 use Rattle.certificate_entries.specs.explain_Texts.{lead}
-use Rattle.plan_lines.specs.Parts.{IsShallow, lacks}
+use Rattle.plan_lines.specs.work.Parts.{IsShallow, lacks}
 
 get-behind : (n : ℕ) (z : List ℕ) (k : ℕ) → get_or (replicate n 32 ++ z) (n + k) 0 ≡ get_or z k 0
 get-behind zero z k = let e : 0 + k ≡ k = omega arith in ap (λ (m : ℕ). get_or z m 0) e

@@ -5,7 +5,7 @@ use Rattle.std.specs.List.{flat_map}
 use Rattle.std.proofs.lemmas.List.{append_assoc, append-nil}
 use Rattle.std.proofs.lemmas.List.Elements.{All-head, All-tail}
 use Rattle.certificate_entries.specs.explain_Texts.{lead}
-use Rattle.plan_lines.specs.Parts.{IsShallow}
+use Rattle.plan_lines.specs.work.Parts.{IsShallow}
 use Rattle.plan_lines.proofs.LineLemmas.{line-shallow, shallow-more}
 
 -- things with texts, each of which begins with a line one deeper than d

@@ -10,18 +10,18 @@ use Rattle.pg_base.specs.declared.numbers.IndexNo.{IndexNo}
 use Rattle.catalog.specs.Contents.{Contents, IsLawful, index_name_at}
 use Rattle.sql_query.specs.Queries.{Query}
 use Rattle.plan_tree.specs.Plans.{BitTree, leaf, all_hold, some_arm, BitTrees, no_trees, tree_and}
-use Rattle.plan_tree.specs.Views.{bits, trees_of}
+use Rattle.plan_tree.specs.work.Views.{bits, trees_of}
 use Rattle.plan_tree.specs.declared.bits.BitTree.{BitTree as Bits, Leaf}
 use Rattle.plan_tree.specs.declared.bits.BitTree.TheViews.{the_lemmas}
 use Rattle.plan_tree.specs.declared.bits.BitTree.TheVariants.{rolls-Leaf}
 use Rattle.plan_tree.specs.declared.bits.BitTree.TheFolds.{fold_out-BitTree}
 use Rattle.certificate_entries.specs.explain_Texts.{bits_text, conjunct_by, lead, leaf_line, leaf_title, number_text, plain_line, trees_text}
 use Rattle.pg_base.proofs.NameLemmas.{decimal-word}
-use Rattle.plan_lines.specs.Parts.{IsShallow, lacks}
+use Rattle.plan_lines.specs.work.Parts.{IsShallow, lacks}
 use Rattle.certificate_entries.proofs.NameLemmas.{index-word}
 use Rattle.pg_base.proofs.OptionLemmas.{none-some-too as none-some}
 use Rattle.plan_lines.specs.HasText.{HasBits, HaveBits, IsConjunct, IsIndexOfQuery}
-use Rattle.plan_lines.specs.Lines.{beneath, tree_title}
+use Rattle.plan_lines.specs.work.Lines.{beneath, tree_title}
 use Rattle.plan_lines.specs.Stands.{Stand, Stands}
 use Rattle.plan_lines.proofs.LineLemmas.{lacks-ten, plain, plain-both, word-plain}
 use Rattle.plan_lines.proofs.ListLemmas.{AreRead, IsItem, begun, one-more}

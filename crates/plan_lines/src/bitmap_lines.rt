@@ -4,9 +4,9 @@ ghost use Rattle.std.specs.Prelude.{◌≡◌, ◌≤◌, List, IfSome, Some, co
 ghost use Rattle.certificate_entries.specs.explain_Texts.{conjunct_text, leaf_title};
 ghost use Rattle.sql_query.specs.WellBound.{IsWellBound};
 ghost use Rattle.plan_lines.specs.HasText.{IsConjunct, IsIndexOfQuery};
-ghost use Rattle.plan_lines.specs.Lines.{HasLine};
+ghost use Rattle.plan_lines.specs.work.Lines.{HasLine};
 ghost use Rattle.plan_lines.specs.declared.bitmap_lines.TreeLine.TheVariants.{All as AllHold};
-ghost use Rattle.plan_lines.specs.Finding.{Finds, FindsArm, FindsScan};
+ghost use Rattle.plan_lines.specs.work.Finding.{Finds, FindsArm, FindsScan};
 
 use crate::certificate_entries::find_clause;
 use crate::{behind, read_index_name};

@@ -2,13 +2,14 @@
 
 ghost use Rattle.std.specs.Prelude.{◌≡◌, ◌↔◌, ◌≤◌, ◌+◌, ◌++◌, All, IfSome, IsTrue, Some, codes};
 ghost use Rattle.catalog.specs.Contents.{IsIndex, index_name_at};
-ghost use Rattle.certificate_entries.specs.explain_Texts.{and_line, leaf_line, leaf_lines, leaf_title, or_line, part_lines, tree_lines};
-ghost use Rattle.plan_tree.specs.Views.{bits, bits_all};
+ghost use Rattle.certificate_entries.specs.explain_Texts.{and_line, leaf_line, leaf_lines, leaf_title, or_line};
+ghost use Rattle.certificate_entries.specs.explain_work_Texts.{part_lines, tree_lines};
+ghost use Rattle.plan_tree.specs.work.Views.{bits, bits_all};
 ghost use Rattle.sql_query.specs.WellBound.{IsWellBound};
 ghost use Rattle.plan_lines.specs.HasText.{HasBits, HaveBits, IsConjunct, IsIndexOfQuery};
-ghost use Rattle.plan_lines.specs.Lines.{or_ending};
+ghost use Rattle.plan_lines.specs.work.Lines.{or_ending};
 ghost use Rattle.plan_lines.specs.Stands.{Stand, Stands};
-ghost use Rattle.plan_lines.specs.Behind.{GivesBehind};
+ghost use Rattle.plan_lines.specs.work.Behind.{GivesBehind};
 
 use crate::behind;
 use crate::certificate_entries::find_clause;

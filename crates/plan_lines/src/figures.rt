@@ -3,8 +3,8 @@
 ghost use Rattle.std.specs.Prelude.{IfSome, codes};
 ghost use Rattle.std.specs.Fmt.{decimal};
 ghost use Rattle.certificate_text.specs.HasText.{IsWritable};
-ghost use Rattle.plan_lines.specs.Finding.{CutsFigures, FindsFigures};
-ghost use Rattle.plan_lines.specs.Behind.{GivesBefore};
+ghost use Rattle.plan_lines.specs.work.Finding.{CutsFigures, FindsFigures};
+ghost use Rattle.plan_lines.specs.work.Behind.{GivesBefore};
 
 use crate::lines::cut;
 use certificate_text::LineCursor;

@@ -4,8 +4,8 @@ ghost use Rattle.std.specs.Prelude.{◌≤◌, length};
 ghost use Rattle.pg_base.specs.Sets.{has};
 ghost use Rattle.sql_query.specs.WellBound.{IsWellBound};
 ghost use Rattle.certificate_entries.specs.certificate_text_HasText.{IsSetOf};
-ghost use Rattle.plan_lines.specs.Words.{ReadsListed};
-ghost use Rattle.plan_lines.specs.Finding.{FindsGiven};
+ghost use Rattle.plan_lines.specs.work.Words.{ReadsListed};
+ghost use Rattle.plan_lines.specs.work.Finding.{FindsGiven};
 
 use catalog::Catalog;
 use certificate_text::LineCursor;

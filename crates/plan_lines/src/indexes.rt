@@ -4,9 +4,9 @@ ghost use Rattle.std.specs.Prelude.{◌↔◌, IfSome, IsTrue};
 ghost use Rattle.catalog.specs.Contents.{IsIndex, index_name_at};
 ghost use Rattle.sql_query.specs.WellBound.{IsWellBound};
 ghost use Rattle.plan_lines.specs.HasText.{IsIndexOfQuery, IsTableOfQuery};
-ghost use Rattle.plan_lines.specs.Scans.{IsIndexScan, indexed_text};
-ghost use Rattle.plan_lines.specs.Finding.{Finds};
-ghost use Rattle.plan_lines.specs.Behind.{CutsDirection, CutsIndex};
+ghost use Rattle.plan_lines.specs.work.Scans.{IsIndexScan, indexed_text};
+ghost use Rattle.plan_lines.specs.work.Finding.{Finds};
+ghost use Rattle.plan_lines.specs.work.Behind.{CutsDirection, CutsIndex};
 
 use crate::relations::behind;
 use crate::scanned::read_scanned;

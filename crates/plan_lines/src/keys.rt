@@ -2,15 +2,17 @@
 
 ghost use Rattle.std.specs.Prelude.{[], ◌≡◌, ◌<◌, ◌++◌, All, IfOk, IfSome, codes, cond, length, nat_eq};
 ghost use Rattle.pg_base.specs.Sets.{has};
-ghost use Rattle.path_cost.specs.Columns.{AreTables};
-ghost use Rattle.pathkeys.specs.Finding.{class_numbers};
+ghost use Rattle.path_cost.specs.work.Columns.{AreTables};
+ghost use Rattle.pathkeys.specs.work.Finding.{class_numbers};
 ghost use Rattle.sql_query.specs.WellBound.{IsColumnOf, IsWellBound};
 ghost use Rattle.certificate_entries.specs.explain_Texts as texts;
-ghost use Rattle.certificate_entries.specs.explain_Texts.{column_text, direction_text, family_text, key_list, key_text, member_at};
+ghost use Rattle.certificate_entries.specs.explain_work_Texts as texts_work;
+ghost use Rattle.certificate_entries.specs.explain_Texts.{column_text, direction_text, family_text, key_text};
+ghost use Rattle.certificate_entries.specs.explain_work_Texts.{key_list, member_at};
 ghost use Rattle.certificate_entries.specs.certificate_text_HasText.{HasKeysText};
-ghost use Rattle.plan_lines.specs.Behind.{GivesBehind, IsLeft};
-ghost use Rattle.plan_lines.specs.Finding.{FindsKeys};
-ghost use Rattle.plan_lines.specs.Parts.{next_key};
+ghost use Rattle.plan_lines.specs.work.Behind.{GivesBehind, IsLeft};
+ghost use Rattle.plan_lines.specs.work.Finding.{FindsKeys};
+ghost use Rattle.plan_lines.specs.work.Parts.{next_key};
 
 use crate::relations::behind;
 use catalog::Catalog;

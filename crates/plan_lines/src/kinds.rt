@@ -1,9 +1,9 @@
 //! What nodes are, by the words that their lines begin with.
 
 ghost use Rattle.std.specs.Prelude.{◌≡◌, ◌++◌, ℕ, List, IfSome};
-ghost use Rattle.plan_lines.specs.Kinds.{words};
+ghost use Rattle.plan_lines.specs.work.Kinds.{words};
 ghost use Rattle.plan_lines.specs.declared.kinds.Kind as kinds;
-ghost use Rattle.plan_lines.specs.Behind.{CutsKind, GivesBehind};
+ghost use Rattle.plan_lines.specs.work.Behind.{CutsKind, GivesBehind};
 
 /// What a node is.
 #[derive(Clone, Copy)]

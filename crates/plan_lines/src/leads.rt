@@ -2,7 +2,7 @@
 
 ghost use Rattle.std.specs.Prelude.{◌≡◌, ◌++◌, ℕ, List, IfSome, replicate, true};
 ghost use Rattle.certificate_entries.specs.explain_Texts.{lead};
-ghost use Rattle.plan_lines.specs.Behind.{GivesBehind, HasSpaces};
+ghost use Rattle.plan_lines.specs.work.Behind.{GivesBehind, HasSpaces};
 
 /// Whether a text begins with so many spaces.
 fn has_spaces(text: &[u8], count: usize) -> bool

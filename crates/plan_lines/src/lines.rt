@@ -1,8 +1,8 @@
 //! The lines of a block.
 
 ghost use Rattle.std.specs.Prelude.{◌≡◌, ◌<◌, ◌≤◌, ◌+◌, ℕ, List, IfNone, IfSome, None, length};
-ghost use Rattle.plan_lines.specs.Parts.{IsShallow};
-ghost use Rattle.plan_lines.specs.Behind.{CutsAt, GivesLine, IsFirstPlace};
+ghost use Rattle.plan_lines.specs.work.Parts.{IsShallow};
+ghost use Rattle.plan_lines.specs.work.Behind.{CutsAt, GivesLine, IsFirstPlace};
 
 use crate::leads::behind_lead;
 use std::marker::Model;

@@ -2,7 +2,7 @@
 
 ghost use Rattle.std.specs.Prelude.{◌≡◌, ◌<◌, ◌^◌, ◌++◌, ℕ, IfSome, Some};
 ghost use Rattle.std.specs.Fmt.{decimal};
-ghost use Rattle.plan_lines.specs.Behind.{CutsNumber, GivesBehindNumber};
+ghost use Rattle.plan_lines.specs.work.Behind.{CutsNumber, GivesBehindNumber};
 
 use crate::behind;
 use certificate_text::LineCursor;

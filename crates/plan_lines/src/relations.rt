@@ -2,11 +2,13 @@
 
 ghost use Rattle.std.specs.Prelude.{◌≡◌, ◌<◌, ◌≤◌, ◌++◌, Bool, IfSome, codes};
 ghost use Rattle.pg_base.specs.Sets.{has};
-ghost use Rattle.path_cost.specs.Columns.{AreTables};
+ghost use Rattle.path_cost.specs.work.Columns.{AreTables};
 ghost use Rattle.sql_query.specs.Queries.{width};
 ghost use Rattle.certificate_entries.specs.explain_Texts as texts;
-ghost use Rattle.certificate_entries.specs.explain_Texts.{before_given, given_text, rel_text, relation_text, scanned_text};
-ghost use Rattle.plan_lines.specs.Behind.{AddsAlias, GivesBehind, PassesAlias};
+ghost use Rattle.certificate_entries.specs.explain_work_Texts as texts_work;
+ghost use Rattle.certificate_entries.specs.explain_Texts.{given_text, rel_text, relation_text, scanned_text};
+ghost use Rattle.certificate_entries.specs.explain_work_Texts.{before_given};
+ghost use Rattle.plan_lines.specs.work.Behind.{AddsAlias, GivesBehind, PassesAlias};
 
 use catalog::Catalog;
 use pg_base::{RelNo, RelSet};

@@ -6,7 +6,7 @@ ghost use Rattle.certificate_entries.specs.explain_Texts.{given_text, rel_text, 
 ghost use Rattle.sql_query.specs.Queries.{width};
 ghost use Rattle.sql_query.specs.WellBound.{IsWellBound};
 ghost use Rattle.plan_lines.specs.HasText.{IsScanned};
-ghost use Rattle.plan_lines.specs.Finding.{Finds, FindsScanned, IsGivenSet, IsGivenTo};
+ghost use Rattle.plan_lines.specs.work.Finding.{Finds, FindsScanned, IsGivenSet, IsGivenTo};
 
 use crate::given::read_given;
 use crate::relations::{behind_given, behind_relation};

@@ -2,16 +2,18 @@
 
 ghost use Rattle.std.specs.Prelude.{◌≡◌, ◌<◌, ◌++◌, All, IfSome, length};
 ghost use Rattle.catalog.specs.Contents.{IsIndex};
-ghost use Rattle.plan_tree.specs.Views.{plan};
+ghost use Rattle.plan_tree.specs.work.Views.{plan};
 ghost use Rattle.sql_query.specs.Queries.{width};
 ghost use Rattle.sql_query.specs.WellBound.{IsWellBound};
 ghost use Rattle.certificate_entries.specs.explain_Texts as texts;
-ghost use Rattle.certificate_entries.specs.explain_Texts.{backward_text, node_keys, title};
-ghost use Rattle.plan_lines.specs.Kinds.{words};
+ghost use Rattle.certificate_entries.specs.explain_work_Texts as texts_work;
+ghost use Rattle.certificate_entries.specs.explain_Texts.{backward_text, title};
+ghost use Rattle.certificate_entries.specs.explain_work_Texts.{node_keys};
+ghost use Rattle.plan_lines.specs.work.Kinds.{words};
 ghost use Rattle.plan_lines.specs.HasText.{IsText};
-ghost use Rattle.plan_lines.specs.Scans.{indexed_text};
-ghost use Rattle.plan_lines.specs.TitleKinds.{behind_words, kind_of, parted_title};
-ghost use Rattle.plan_lines.specs.Behind.{GivesBehind, IsLeft};
+ghost use Rattle.plan_lines.specs.work.Scans.{indexed_text};
+ghost use Rattle.plan_lines.specs.work.TitleKinds.{behind_words, kind_of, parted_title};
+ghost use Rattle.plan_lines.specs.work.Behind.{GivesBehind, IsLeft};
 
 use crate::indexes::IndexScan;
 use crate::keys::behind_keys;

@@ -1,11 +1,11 @@
 //! Bitmap trees, read line by line.
 
 ghost use Rattle.std.specs.Prelude.{◌≤◌, IfOk, IfSome, length};
-ghost use Rattle.plan_tree.specs.Views.{bits};
+ghost use Rattle.plan_tree.specs.work.Views.{bits};
 ghost use Rattle.sql_query.specs.WellBound.{IsWellBound};
 ghost use Rattle.plan_lines.specs.HasText.{IsConjunct, IsIndexOfQuery};
-ghost use Rattle.plan_lines.specs.Finding.{FindsLeafAt};
-ghost use Rattle.plan_lines.specs.Trees.{HasBitsAt, ReadsAll, ReadsArms, ReadsTreeAt};
+ghost use Rattle.plan_lines.specs.work.Finding.{FindsLeafAt};
+ghost use Rattle.plan_lines.specs.work.Trees.{HasBitsAt, ReadsAll, ReadsArms, ReadsTreeAt};
 
 use crate::Lines;
 use crate::bitmap_lines::{TreeLine, read_leaf, read_line};

@@ -13,7 +13,7 @@ use Rattle.sql_query.specs.Queries.{Query}
 use Rattle.plan_tree.specs.Plans.{Plan, bitmap, sort, nest, merge, BitTree}
 use Rattle.plan_lines.specs.explain_Texts.{bits_text}
 use Rattle.plan_space.specs.Numbered.{CostAndRows, nodes}
-use Rattle.plan_reader.specs.Beneath.{IsBehind}
+use Rattle.plan_reader.specs.work.Beneath.{IsBehind}
 use Rattle.plan_reader.specs.Written.{Fits, line_with, written_at, written_beneath}
 use Rattle.plan_reader.proofs.NodeLemmas.{nodes-some}
 

@@ -4,12 +4,12 @@ use Rattle.std.specs.Prelude.{Option, Some, Result, IfOk, option_map}
 use Rattle.catalog.specs.Contents.{Contents, IsLawful}
 use Rattle.sql_query.specs.Queries.{Query}
 use Rattle.plan_tree.specs.Plans.{BitTree}
-use Rattle.plan_tree.specs.Views.{bits}
+use Rattle.plan_tree.specs.work.Views.{bits}
 use Rattle.plan_tree.specs.declared.bits.BitTree.{BitTree as Bits}
 use Rattle.plan_lines.specs.explain_Texts.{bits_text}
-use Rattle.plan_lines.specs.Parts.{IsShallow}
+use Rattle.plan_lines.specs.work.Parts.{IsShallow}
 use Rattle.plan_lines.specs.HasText.{HasBits}
-use Rattle.plan_lines.specs.Lines.{beneath, tree_title}
+use Rattle.plan_lines.specs.work.Lines.{beneath, tree_title}
 use Rattle.plan_lines.specs.Stands.{Stands}
 use Rattle.plan_lines.proofs.TreeLemmas.{IsNext, tree-item}
 

@@ -17,16 +17,16 @@ use Rattle.plan_lines.specs.explain_Texts.{bits_text, figures_text, keys_text, l
 use Rattle.std.specs.Fmt.{decimal}
 use Rattle.plan_lines.specs.certificate_text_HasText.{HasKeysText}
 use Rattle.plan_space.specs.Numbered.{CostAndRows, nodes}
-use Rattle.plan_lines.specs.Parts.{IsShallow}
+use Rattle.plan_lines.specs.work.Parts.{IsShallow}
 use Rattle.plan_lines.specs.declared.kinds.Kind.{Kind}
 use Rattle.plan_lines.specs.declared.kinds.Kind.TheVariants as kinds
 use Rattle.plan_lines.specs.HasText.{HasBits, IsScanned, IsText}
-use Rattle.plan_lines.specs.TitleKinds.{behind_words, kind_of}
-use Rattle.plan_lines.specs.Scans.{IsIndexScan, indexed_text}
+use Rattle.plan_lines.specs.work.TitleKinds.{behind_words, kind_of}
+use Rattle.plan_lines.specs.work.Scans.{IsIndexScan, indexed_text}
 use Rattle.plan_lines.specs.declared.indexes.IndexScan.{IndexScan}
 use Rattle.plan_lines.specs.Stands.{Stands}
 use Rattle.plan_lines.proofs.LineLemmas.{line-shallow, shallow-more}
-use Rattle.plan_reader.specs.Beneath.{AreRead, IsLineOf, IsRead}
+use Rattle.plan_reader.specs.work.Beneath.{AreRead, IsLineOf, IsRead}
 use Rattle.plan_reader.specs.Written.{Fits, StandsAt, first_pair, later_pairs, line_with, written_at, written_beneath}
 use Rattle.plan_reader.specs.declared.lines.NodeLine.{NodeLine}
 

@@ -31,14 +31,14 @@ use Rattle.plan_lines.specs.certificate_text_HasText.{HasKeysText}
 use Rattle.pg_base.proofs.NameLemmas.{name-word}
 use Rattle.plan_lines.specs.certificate_entries_NameLemmas.{index-word}
 use Rattle.plan_space.specs.Numbered.{CostAndRows}
-use Rattle.plan_lines.specs.Kinds.{words}
-use Rattle.plan_lines.specs.Parts.{figures_behind, lacks}
+use Rattle.plan_lines.specs.work.Kinds.{words}
+use Rattle.plan_lines.specs.work.Parts.{figures_behind, lacks}
 use Rattle.plan_lines.proofs.KeyLemmas.{title-is}
 use Rattle.plan_lines.specs.HasText.{IsIndexOfQuery, IsScanned, IsText}
-use Rattle.plan_lines.specs.Scans.{indexed_text}
+use Rattle.plan_lines.specs.work.Scans.{indexed_text}
 use Rattle.plan_lines.specs.declared.indexes.IndexScan.{IndexScan}
 use Rattle.plan_lines.proofs.LineLemmas.{lacks-forty, lacks-ten, plain, plain-both, word-plain}
-use Rattle.plan_lines.specs.TitleKinds.{behind_words, kind_of}
+use Rattle.plan_lines.specs.work.TitleKinds.{behind_words, kind_of}
 use Rattle.plan_reader.specs.Written.{line_with}
 
 name-plain : (w : List ℕ) → IsName w → plain w ≡ true

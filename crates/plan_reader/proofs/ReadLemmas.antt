@@ -6,11 +6,11 @@ use Rattle.std.proofs.lemmas.Option.{same_Some, none-some}
 use Rattle.catalog.specs.Contents.{Contents}
 use Rattle.sql_query.specs.Queries.{Query}
 use Rattle.plan_tree.specs.Plans.{Plan}
-use Rattle.plan_tree.specs.Views.{plan}
+use Rattle.plan_tree.specs.work.Views.{plan}
 use Rattle.plan_space.specs.Numbered.{CostAndRows}
 use Rattle.plan_space.specs.declared.numbers.Written.{Written}
 use Rattle.plan_lines.proofs.LineLemmas.{shallow-end}
-use Rattle.plan_reader.specs.Beneath.{IsRead}
+use Rattle.plan_reader.specs.work.Beneath.{IsRead}
 use Rattle.plan_reader.specs.Written.{IsWritten, written_text}
 use Rattle.plan_reader.specs.declared.reading.WrittenFault.{WrittenFault}
 use Rattle.plan_reader.specs.declared.reading.WrittenFault.TheVariants.{P1}

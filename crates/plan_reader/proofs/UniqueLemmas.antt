@@ -33,16 +33,16 @@ use Rattle.plan_lines.specs.explain_laws_SplitLemmas.{no-space, relation-split, 
 use Rattle.plan_lines.specs.certificate_entries_ClauseLemmas.{conjunct-small}
 use Rattle.plan_lines.specs.certificate_text_HasText.{HasKeysText}
 use Rattle.plan_space.specs.Numbered.{CostAndRows, nodes}
-use Rattle.plan_lines.specs.Kinds.{words}
-use Rattle.plan_lines.specs.Parts.{IsShallow}
+use Rattle.plan_lines.specs.work.Kinds.{words}
+use Rattle.plan_lines.specs.work.Parts.{IsShallow}
 use Rattle.plan_lines.specs.declared.kinds.Kind.{Kind}
 use Rattle.plan_lines.specs.declared.kinds.Kind.TheVariants as kinds
 use Rattle.plan_lines.specs.HasText.{HasBits, HaveBits, IsIndexOfQuery, IsScanned, IsText}
-use Rattle.plan_lines.specs.TitleKinds.{behind_words, kind_of}
-use Rattle.plan_lines.specs.Scans.{indexed_text}
+use Rattle.plan_lines.specs.work.TitleKinds.{behind_words, kind_of}
+use Rattle.plan_lines.specs.work.Scans.{indexed_text}
 use Rattle.plan_lines.proofs.KeyLemmas.{title-is}
 use Rattle.plan_lines.proofs.ScannedLemmas.{scanned-split}
-use Rattle.plan_lines.specs.Lines.{beneath, tree_title}
+use Rattle.plan_lines.specs.work.Lines.{beneath, tree_title}
 use Rattle.plan_lines.proofs.CompareLemmas.{some-of}
 use Rattle.plan_lines.proofs.LineLemmas.{line-shallow, shallow-end, shallow-more}
 use Rattle.plan_lines.proofs.TreeLemmas.{bits-is}

@@ -1,11 +1,11 @@
 //! Plans with numbers compared with a text.
 
 ghost use Rattle.std.specs.Prelude.{◌≡◌, ◌≤◌, ◌++◌, IfSome};
-ghost use Rattle.plan_tree.specs.Views.{plan};
+ghost use Rattle.plan_tree.specs.work.Views.{plan};
 ghost use Rattle.sql_query.specs.WellBound.{IsWellBound};
 ghost use Rattle.plan_lines.specs.HasText.{IsText};
 ghost use Rattle.plan_reader.specs.Written.{Fits, StandsAt, figures_with, line_with};
-ghost use Rattle.plan_reader.specs.Compared.{GivesBoth, GivesFitting, IsBehindLine, LeavesBoth};
+ghost use Rattle.plan_reader.specs.work.Compared.{GivesBoth, GivesFitting, IsBehindLine, LeavesBoth};
 
 use catalog::Catalog;
 use plan_lines::{behind, behind_bits, behind_lead, behind_number, behind_title};

@@ -1,7 +1,7 @@
 //! The first line of a node.
 
 ghost use Rattle.sql_query.specs.WellBound.{IsWellBound};
-ghost use Rattle.plan_reader.specs.Nodes.{CutsParts, ReadsFirst};
+ghost use Rattle.plan_reader.specs.work.Nodes.{CutsParts, ReadsFirst};
 
 use catalog::Catalog;
 use plan_lines::{Kind, Lines, read_kind, read_line};

@@ -3,12 +3,12 @@
 ghost use Rattle.std.specs.Prelude.{◌≡◌, ◌<◌, ◌≤◌, ◌+◌, ◌++◌, ℕ, All, IfOk, IfSome, Some, length, option_map};
 ghost use Rattle.pg_base.specs.Sets.{has};
 ghost use Rattle.plan_tree.specs.Plans as plans;
-ghost use Rattle.plan_tree.specs.Reads.{ReadsBelow};
-ghost use Rattle.plan_tree.specs.Views.{plan};
+ghost use Rattle.plan_tree.specs.work.Reads.{ReadsBelow};
+ghost use Rattle.plan_tree.specs.work.Views.{plan};
 ghost use Rattle.sql_query.specs.WellBound.{IsWellBound};
 ghost use Rattle.plan_lines.specs.HasText.{IsText};
 ghost use Rattle.plan_reader.specs.Written.{StandsAt};
-ghost use Rattle.plan_reader.specs.Nodes.{AreSidesAt, FindsMerge, FindsSort, IsTextAt, ReadsPair, ReadsPlan, set_of_sides};
+ghost use Rattle.plan_reader.specs.work.Nodes.{AreSidesAt, FindsMerge, FindsSort, IsTextAt, ReadsPair, ReadsPlan, set_of_sides};
 ghost use Rattle.plan_tree.specs.Plans.{nest};
 
 use crate::lines::read_first;

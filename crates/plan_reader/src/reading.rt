@@ -1,12 +1,12 @@
 //! The whole text of a plan.
 
 ghost use Rattle.std.specs.Prelude.{◌≡◌, ◌↔◌, ℕ, IfErr, IfOk, IsTrue};
-ghost use Rattle.plan_tree.specs.Views.{plan};
+ghost use Rattle.plan_tree.specs.work.Views.{plan};
 ghost use Rattle.sql_query.specs.WellBound.{IsWellBound};
 ghost use Rattle.plan_lines.specs.HasText.{IsText};
 ghost use Rattle.plan_reader.specs.Written.{IsWritten, StandsAt};
 ghost use Rattle.plan_reader.specs.declared.reading.WrittenFault.TheVariants.{P1};
-ghost use Rattle.plan_reader.specs.Nodes.{IsNoPlan, IsOnlyPlan};
+ghost use Rattle.plan_reader.specs.work.Nodes.{IsNoPlan, IsOnlyPlan};
 
 use crate::compared::behind_plan;
 use crate::nodes::read_node;

@@ -2,12 +2,12 @@
 
 ghost use Rattle.std.specs.Prelude.{◌≤◌, ◌+◌, ℕ, Bool, IfOk, IfSome, length};
 ghost use Rattle.plan_tree.specs.Plans as plans;
-ghost use Rattle.plan_tree.specs.Views.{bits, plan};
+ghost use Rattle.plan_tree.specs.work.Views.{bits, plan};
 ghost use Rattle.sql_query.specs.WellBound.{IsWellBound};
 ghost use Rattle.plan_lines.specs.HasText.{IsIndexOfQuery, IsText};
 ghost use Rattle.plan_reader.specs.Written.{StandsAt};
-ghost use Rattle.plan_reader.specs.Nodes.{FindsIndexed, FindsSeq, IsTextAt, ReadsBits, ReadsHeapScan};
-ghost use Rattle.plan_lines.specs.Trees.{HasBitsAt};
+ghost use Rattle.plan_reader.specs.work.Nodes.{FindsIndexed, FindsSeq, IsTextAt, ReadsBits, ReadsHeapScan};
+ghost use Rattle.plan_lines.specs.work.Trees.{HasBitsAt};
 
 use catalog::Catalog;
 use pg_base::Memory;

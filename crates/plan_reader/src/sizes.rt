@@ -2,7 +2,7 @@
 
 ghost use Rattle.std.specs.Prelude.{◌≡◌, ◌≤◌, ◌+◌, min};
 ghost use Rattle.plan_space.specs.Numbered.{all_bit_lines, bit_lines, line_count};
-ghost use Rattle.plan_tree.specs.Views.{bits, bits_all, plan};
+ghost use Rattle.plan_tree.specs.work.Views.{bits, bits_all, plan};
 
 use plan_tree::{BitTree, Plan};
 

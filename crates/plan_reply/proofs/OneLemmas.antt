@@ -6,7 +6,7 @@ use Rattle.catalog.specs.Contents.{Contents, IsLawful}
 use Rattle.sql_query.specs.Queries.{Query}
 use Rattle.sql_query.specs.WellBound.{IsWellBound}
 use Rattle.plan_tree.specs.Plans.{Plan, seq, index, index_only, bitmap, sort, nest, merge}
-use Rattle.plan_tree.specs.Views.{plan}
+use Rattle.plan_tree.specs.work.Views.{plan}
 use Rattle.plan_tree.specs.Space.{IsBuilt, IsFinished}
 use Rattle.plan_space.specs.Judging.{IsBadJoin, IsJudged, IsOutside, IsUnfinished, IsWrongNumber, IsWrongPair, unsorted}
 use Rattle.plan_space.specs.Numbered.{CostAndRows, line_count, lines_from, own_numbers}
@@ -15,7 +15,8 @@ use Rattle.plan_space.specs.declared.judged.Judged.TheVariants.{Good, Outside, L
 use Rattle.plan_reader.specs.Written.{IsWritten}
 use Rattle.plan_reader.proofs.UniqueLemmas.{one-plan}
 use Rattle.reply_text.specs.Texts.{invalid_line}
-use Rattle.plan_reply.specs.Told.{IsNotGood, IsFaulted, IsGoodPlan, IsRefusedPlan, IsSameTold, IsTold, faulted, reason_text, unread}
+use Rattle.plan_reply.specs.Told.{IsNotGood, IsFaulted, IsGoodPlan, IsRefusedPlan, faulted, reason_text, unread}
+use Rattle.plan_reply.specs.work.Told.{IsSameTold, IsTold}
 use Rattle.plan_reply.specs.declared.told.Told.{Told}
 use Rattle.plan_reply.specs.declared.told.Told.TheVariants as tellings
 

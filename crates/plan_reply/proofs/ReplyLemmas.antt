@@ -11,11 +11,11 @@ use Rattle.sql_query.specs.declared.window.Window.{Window}
 use Rattle.plan_tree.specs.Costs.{cost, price, price_by}
 use Rattle.plan_tree.specs.Counts.{fetches, looks}
 use Rattle.plan_tree.specs.Plans.{Plan}
-use Rattle.plan_tree.specs.Views.{plan}
+use Rattle.plan_tree.specs.work.Views.{plan}
 use Rattle.reply.specs.scan_exec_Coming.{Coming, coming}
 use Rattle.plan_laws.specs.Closed.{is_scan}
 use Rattle.executor.specs.Opening.{opening_fetches}
-use Rattle.executor.specs.Reading.{Reading}
+use Rattle.executor.specs.work.Reading.{Reading}
 use Rattle.reply.specs.explain_Texts.{plan_text}
 use Rattle.reply.specs.plan_laws_FinishedLemmas.{finished_is_meaning}
 use Rattle.reply.specs.plan_laws_FinishedOrderLemmas.{finished_is_ordered}
@@ -25,7 +25,8 @@ use Rattle.plan_reader.proofs.OwnLemmas.{own-plan}
 use Rattle.reply.specs.Answers.{result_text, tuples_of}
 use Rattle.reply.specs.Effort.{HasRisen, Rise, answer_fetches, answer_looks, exactly, fetched_by, last_in, looked_by}
 use Rattle.reply.specs.Replies.{HasBegun, HasReplied, Reply, traces}
-use Rattle.plan_reply.specs.Told.{IsGoodPlan, IsPlanAnswer, IsPlanReplyTo, IsRefusedPlan, IsTold, planned, refused}
+use Rattle.plan_reply.specs.Told.{IsGoodPlan, IsPlanAnswer, IsPlanReplyTo, IsRefusedPlan, planned, refused}
+use Rattle.plan_reply.specs.work.Told.{IsTold}
 use Rattle.plan_reply.specs.declared.told.Told.{Told}
 use Rattle.plan_reply.specs.declared.told.Told.TheVariants as tellings
 

@@ -5,7 +5,8 @@ use Rattle.pg_base.specs.Writing.{AppendsPrefix}
 use Rattle.catalog.specs.Contents.{Contents}
 use Rattle.sql_query.specs.Queries.{Query}
 use Rattle.reply.specs.Effort.{exactly}
-use Rattle.reply.specs.Replies.{HasBegun, HasReplied, Leaves, Reply, traces}
+use Rattle.reply.specs.Replies.{HasBegun, HasReplied, Reply, traces}
+use Rattle.reply.specs.work.Replies.{Leaves}
 use Rattle.reply.specs.declared.stop.Stop.{Stop}
 use Rattle.reply.specs.declared.stop.Stop.TheVariants.{NoPlan, Write, Memory}
 use Rattle.plan_reply.specs.Tabled.{IsTableOf, IsTabledText}

@@ -12,7 +12,7 @@ use Rattle.plan_tree.specs.Costs.{cost, price}
 use Rattle.plan_tree.specs.Least.{IsBestPlan}
 use Rattle.plan_tree.specs.Plans.{Plan}
 use Rattle.plan_tree.specs.Space.{IsFinished}
-use Rattle.plan_tree.specs.Views.{plan}
+use Rattle.plan_tree.specs.work.Views.{plan}
 use Rattle.plan_space.specs.Judging.{IsGood, IsJudged}
 use Rattle.plan_space.specs.Numbered.{CostAndRows}
 use Rattle.plan_space.specs.declared.judged.Judged.{Judged}
@@ -21,8 +21,6 @@ use Rattle.plan_reader.specs.Written.{IsWritten}
 use Rattle.reply.specs.Answers.{result_text, tuples_of}
 use Rattle.reply.specs.Effort.{answer_fetches, answer_looks, exactly}
 use Rattle.reply.specs.Replies.{Reply}
-use Rattle.plan_reply.specs.declared.told.Told.{Told}
-use Rattle.plan_reply.specs.declared.told.Told.TheVariants as tellings
 
 -- why a plan that is read is not run; of a good one there is no reason
 abbrev pub reason_text : Judged → List ℕ
@@ -36,10 +34,6 @@ reason_text (Number line is_cost printed own) =
 abbrev pub IsNotGood : Judged → Type 0
 IsNotGood Good = ⊥
 IsNotGood _ = Unit {0}
-
--- a plan that is read is not good, and these bytes say why
-abbrev pub IsReasonOf : Judged → List ℕ → Type 0
-IsReasonOf judged bytes = IsNotGood judged × (bytes ≡ reason_text judged)
 
 module _ (c : Contents) (q : Query) (block : List ℕ) where
   -- the block is the text of no plan
@@ -66,17 +60,6 @@ module _ (c : Contents) (q : Query) (block : List ℕ) where
     pub numbers : List CostAndRows
     pub read : IsWritten c q block p numbers
     pub good : IsGood c q p numbers
-
-  -- the judgement of the block: a line that says why its plan is not run, or the good plan whose text it is
-  abbrev pub IsTold : Told → Type 0
-  IsTold (tellings.Line bytes) = IsRefusedPlan bytes.items
-  IsTold (tellings.Plan p) = IsGoodPlan (plan p)
-
--- two answers to a block are the same: one line, or one plan
-abbrev pub IsSameTold : Told → Told → Type 0
-IsSameTold (tellings.Line a) (tellings.Line b) = a.items ≡ b.items
-IsSameTold (tellings.Plan p) (tellings.Plan o) = plan p ≡ plan o
-IsSameTold _ _ = ⊥
 
 -- the rows of a plan that is written out: its tuples are the query's meaning, each as often, and in its ORDER BY; its cost is
 -- no less than the price of a best plan. Its text is printed, and a line for each of these tuples, with their number

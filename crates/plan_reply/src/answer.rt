@@ -1,11 +1,12 @@
 //! The reply, written to out.
 
 ghost use Rattle.std.specs.Prelude.{◌≡◌, None, OnErr, OnOk};
-ghost use Rattle.plan_reply.specs.Told.{IsGoodPlan, IsPlanReplyTo, IsTold};
-ghost use Rattle.plan_tree.specs.Views.{plan};
+ghost use Rattle.plan_reply.specs.Told.{IsGoodPlan, IsPlanReplyTo};
+ghost use Rattle.plan_reply.specs.work.Told.{IsTold};
+ghost use Rattle.plan_tree.specs.work.Views.{plan};
 ghost use Rattle.reply.specs.Putting.{HasWriteCause};
 ghost use Rattle.reply.specs.Replies.{HasBegun, HasReplied, traces};
-ghost use Rattle.reply.specs.Settings.{IsSetting, world_of};
+ghost use Rattle.reply.specs.work.Settings.{IsSetting, world_of};
 
 use crate::told::Told;
 use executor::{Rows, tuples_have_rows};

@@ -6,8 +6,8 @@ ghost use Rattle.plan_space.specs.declared.lines.TheConstants.{MOST_LINES};
 ghost use Rattle.plan_reader.specs.Written.{IsWritten};
 ghost use Rattle.plan_reader.specs.declared.reading.WrittenFault.TheVariants.{P1};
 ghost use Rattle.reply_text.specs.Texts as texts;
-ghost use Rattle.plan_reply.specs.Told.{IsTold};
-ghost use Rattle.plan_tree.specs.Views.{plan};
+ghost use Rattle.plan_reply.specs.work.Told.{IsTold};
+ghost use Rattle.plan_tree.specs.work.Views.{plan};
 ghost use Rattle.sql_query.specs.WellBound.{IsWellBound};
 
 use crate::lines::reason_text;

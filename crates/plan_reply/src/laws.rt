@@ -2,7 +2,8 @@
 
 ghost use Rattle.std.specs.Prelude.{◌≡◌, ℕ, List, None};
 ghost use Rattle.catalog.specs.Contents.{Contents, IsLawful};
-ghost use Rattle.plan_reply.specs.Told.{IsPlanReplyTo, IsSameTold, IsTold};
+ghost use Rattle.plan_reply.specs.Told.{IsPlanReplyTo};
+ghost use Rattle.plan_reply.specs.work.Told.{IsSameTold, IsTold};
 ghost use Rattle.plan_reply.specs.declared.told.Told.{Told};
 ghost use Rattle.reply.specs.Replies.{Reply};
 ghost use Rattle.sql_query.specs.Queries.{Query};

@@ -2,7 +2,8 @@
 
 ghost use Rattle.std.specs.Prelude.{◌≡◌, IfOk, MatchOption};
 ghost use Rattle.plan_reply.specs.Told as texts;
-ghost use Rattle.plan_reply.specs.Told.{IsReasonOf};
+ghost use Rattle.plan_reply.specs.work.Told as texts_work;
+ghost use Rattle.plan_reply.specs.work.Told.{IsReasonOf};
 
 use cost_rules::MOST_COST;
 use pg_base::Memory;

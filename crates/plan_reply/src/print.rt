@@ -4,7 +4,7 @@ ghost use Rattle.std.specs.Prelude.{◌≡◌, IfErr, OnErr, OnOk};
 ghost use Rattle.std.specs.Io.KnownBytes.{Appends};
 ghost use Rattle.pg_base.specs.Writing.{AppendsPrefix};
 ghost use Rattle.reply.specs.Putting.{HasWriteCause};
-ghost use Rattle.reply.specs.Replies.{HasPrinted, LeavesPrinted};
+ghost use Rattle.reply.specs.work.Replies.{HasPrinted, LeavesPrinted};
 ghost use Rattle.sql_query.specs.WellBound.{IsWellBound};
 ghost use Rattle.plan_reply.specs.Tabled.{IsTableOf};
 ghost use Rattle.planned_table.specs.certificate_laws_Arms.{HasArmsInOrs};

@@ -1,11 +1,11 @@
 //! The text of EXPLAIN (TABLE).
 
 ghost use Rattle.std.specs.Prelude.{◌≡◌, ◌≢◌, IfErr, IfOk};
-ghost use Rattle.plan_check.specs.Views.{certificate};
+ghost use Rattle.plan_check.specs.work.Views.{certificate};
 ghost use Rattle.planned_table.specs.certificate_text_HasText.{HasText};
 ghost use Rattle.plan_tree.specs.Least.{IsAdmissible, HasNoPlan};
-ghost use Rattle.plan_tree.specs.Paths.{IsFinishedPath};
-ghost use Rattle.plan_tree.specs.Views.{path};
+ghost use Rattle.plan_tree.specs.work.Paths.{IsFinishedPath};
+ghost use Rattle.plan_tree.specs.work.Views.{path};
 ghost use Rattle.sql_query.specs.WellBound.{IsWellBound};
 ghost use Rattle.plan_reply.specs.Tabled.{IsTabledText, tabled_text};
 ghost use Rattle.planned_table.specs.certificate_laws_Arms.{HasArmsInOrs};

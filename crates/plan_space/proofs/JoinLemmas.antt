@@ -5,23 +5,25 @@ use Rattle.std.specs.Prelude.{Option, Some, None, option_map}
 use Rattle.std.specs.List.{list_any, list_all}
 use Rattle.std.proofs.lemmas.Bool.{eqb-true, lt-ltb, ltb-true, or_cases, true≢false}
 use Rattle.std.proofs.lemmas.List.{length-map}
-use Rattle.pg_base.specs.Sets.{has, Meets}
+use Rattle.pg_base.specs.Sets.{has}
+use Rattle.pg_base.specs.work.Sets.{Meets}
 use Rattle.pg_base.specs.declared.numbers.RelNo.{RelNo}
 use Rattle.pg_base.specs.declared.rel_set.RelSet.{RelSet}
 use Rattle.pg_base.proofs.SetLaws.{has-zero}
 use Rattle.catalog.specs.Contents.{Contents}
 use Rattle.eq_classes.specs.Clauses.{Set, ClassTable}
 use Rattle.eq_classes.specs.Holding.{AreApart, IsWithin}
-use Rattle.eq_classes.specs.Parts.{first_four, joining_from}
+use Rattle.eq_classes.specs.Parts.{joining_from}
+use Rattle.eq_classes.specs.work.Parts.{first_four}
 use Rattle.eq_classes.specs.declared.classes.ClassNo.{ClassNo}
-use Rattle.pathkeys.specs.Finding.{class_numbers, is_class}
+use Rattle.pathkeys.specs.work.Finding.{class_numbers, is_class}
 use Rattle.pathkeys.specs.Keys.{AreDifferent, Keys}
 use Rattle.sql_query.specs.Queries.{Query, width}
 use Rattle.plan_tree.specs.Plans.{Plan, seq, index, index_only, bitmap, sort, nest, merge, param_in, scan_given, set_of}
-use Rattle.plan_tree.specs.Reads.{ReadsBelow}
-use Rattle.plan_tree.specs.Costable.{IsCostable}
+use Rattle.plan_tree.specs.work.Reads.{ReadsBelow}
+use Rattle.plan_tree.specs.work.Costable.{IsCostable}
 use Rattle.plan_tree.specs.Space.{IsBuilt, IsEmpty, IsMergeList, IsSameSet}
-use Rattle.plan_tree.specs.Views.{plan}
+use Rattle.plan_tree.specs.work.Views.{plan}
 use Rattle.plan_tree.specs.declared.plan.Plan.{Plan as Planned}
 use Rattle.plan_tree.proofs.CostableLemmas.{built-costable}
 use Rattle.plan_tree.proofs.EstimateLemmas.{below-more}

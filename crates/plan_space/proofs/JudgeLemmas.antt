@@ -3,13 +3,14 @@ use Rattle.std.proofs.Common.{◌≡◌, ◌≢◌, ◌<◌, ◌≤◌, ◌+◌,
 use Rattle.std.proofs.lemmas.List.{take_all, take_more_same}
 use Rattle.catalog.specs.Contents.{Contents}
 use Rattle.sql_query.specs.Queries.{Query}
-use Rattle.cost_rules.specs.Costs.{capped, capped_pair}
+use Rattle.cost_rules.specs.work.Costs.{capped, capped_pair}
 use Rattle.cost_rules.specs.declared.pair.Pair.{Pair as Costs}
 use Rattle.cost_rules.specs.declared.parameters.TheConstants.{MOST_COST}
 use Rattle.plan_tree.specs.Plans.{Plan}
 use Rattle.plan_tree.specs.Least.{IsAdmissible}
 use Rattle.plan_tree.specs.Space.{IsFinished}
-use Rattle.plan_space.specs.Judging.{IsJudged, IsWrong, IsWrongPair, NamesWrong}
+use Rattle.plan_space.specs.Judging.{IsJudged, IsWrongPair}
+use Rattle.plan_space.specs.work.Judging.{IsWrong, NamesWrong}
 use Rattle.plan_space.specs.Numbered.{CostAndRows, lines_from, nodes, own_numbers}
 use Rattle.plan_space.specs.declared.judged.Judged.{Judged}
 use Rattle.plan_space.specs.declared.judged.Judged.TheVariants.{Good, Outside, Limit, Number}

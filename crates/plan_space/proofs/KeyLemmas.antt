@@ -5,7 +5,7 @@ use Rattle.std.specs.Prelude.{None, Option, Some, is_some, slice_get}
 use Rattle.std.proofs.lemmas.Bool.{and_from, and_parts, eq-eqb, eqb-true, true≢false}
 use Rattle.std.proofs.lemmas.Bool.Decides.{nat_tests}
 use Rattle.eq_classes.specs.declared.classes.ClassNo.{ClassNo}
-use Rattle.pathkeys.specs.Finding.{class_numbers, is_class}
+use Rattle.pathkeys.specs.work.Finding.{class_numbers, is_class}
 use Rattle.pathkeys.specs.Keys.{Keys, covers}
 
 pub covers-at : (a b : Keys) (k : ℕ) → covers a b ≡ true → k < length b → slice_get a k ≡ slice_get b k

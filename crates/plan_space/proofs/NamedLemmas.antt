@@ -12,10 +12,11 @@ use Rattle.pg_base.proofs.SetLaws.{same_set}
 use Rattle.opfamily.specs.declared.classes.Method.{Method}
 use Rattle.opfamily.specs.declared.classes.Method.TheVariants.{Btree, Hash}
 use Rattle.pg_expr.specs.Cond.{Cond}
-use Rattle.pg_expr.specs.Columns.{names_rel, rels_below}
+use Rattle.pg_expr.specs.Columns.{names_rel}
+use Rattle.pg_expr.specs.work.Columns.{rels_below}
 use Rattle.pg_expr.proofs.ColumnLaws.{weaker-each}
 use Rattle.catalog.specs.Range.{Range}
-use Rattle.path_cost.specs.Columns.{IsOver, is_column_in}
+use Rattle.path_cost.specs.work.Columns.{IsOver, is_column_in}
 use Rattle.catalog.specs.Contents.{Contents, index_at}
 use Rattle.eq_classes.specs.Clauses.{Clause, Set, ClassTable}
 use Rattle.eq_classes.specs.Listing.{clause_at}

@@ -10,9 +10,9 @@ use Rattle.std.proofs.lemmas.List.Folds.{list_any-append}
 use Rattle.eq_classes.specs.Clauses.{ClassTable}
 use Rattle.eq_classes.specs.declared.classes.ClassNo.{ClassNo}
 use Rattle.eq_classes.specs.declared.order.OrderItem.{OrderItem}
-use Rattle.pathkeys.specs.Finding.{class_numbers}
+use Rattle.pathkeys.specs.work.Finding.{class_numbers}
 use Rattle.pathkeys.specs.Keys.{Keys, covers, is_constant, once, order_class, order_keys}
-use Rattle.plan_space.specs.OrderKeys.{GoesOnAs, classes_asked, goes_on, once_besides}
+use Rattle.plan_space.specs.work.OrderKeys.{GoesOnAs, classes_asked, goes_on, once_besides}
 use Rattle.pg_base.proofs.NumberLemmas.{nat_eq-turned}
 
 -- a filter of a filter is one by both tests

@@ -10,7 +10,7 @@ use Rattle.pathkeys.specs.Keys.{Keys}
 use Rattle.plan_tree.specs.Plans.{Plan, seq, index, index_only, bitmap, sort, nest, merge}
 use Rattle.plan_tree.proofs.BoundLemmas.{merge-most, nest-most, sort-most}
 use Rattle.plan_space.specs.Numbered.{line_count, lines_from, nodes, own_numbers, own_pair}
-use Rattle.plan_space.specs.Parts.{IsPart}
+use Rattle.plan_space.specs.work.Parts.{IsPart}
 
 pub line-count : (at : ℕ) (p : Plan) → length (lines_from at p) ≡ nodes p
 line-count at (seq r) = refl

@@ -16,7 +16,7 @@ use Rattle.pathkeys.specs.Keys.{Keys, covers, keys_from, keys_by, index_keys, cl
 use Rattle.plan_tree.specs.Keys.{keys_of, scan_keys}
 use Rattle.plan_tree.specs.Plans.{Plan, seq, index, index_only, bitmap, sort, nest, merge, is_empty, is_sort}
 use Rattle.plan_tree.specs.Space.{HasKeys, IsBuilt, MeetsOrder}
-use Rattle.plan_space.specs.Sorts.{sort_list}
+use Rattle.plan_space.specs.work.Sorts.{sort_list}
 
 module _ (c : Contents) (q : Query) where
   pub sort-has : (p : Plan) (own keys : Keys) → Some own ≡ sort_list p → HasKeys c q p keys ↔ (own ≡ keys)

@@ -12,9 +12,9 @@ use Rattle.eq_classes.specs.Clauses.{Clause, Set}
 use Rattle.path_cost.specs.Estimates.{conditions_from}
 use Rattle.sql_query.specs.Queries.{Query}
 use Rattle.plan_tree.specs.Bitmaps.{Element, ArePicked, none_left, picked, passed, MOST_ELEMENTS, IsBitTree, IsElement, IsTreeOver, candidates, HasArms, HaveArms, element_of, elements_of}
-use Rattle.plan_space.specs.Ordered.{AreInOrder}
+use Rattle.plan_space.specs.work.Ordered.{AreInOrder}
 use Rattle.plan_tree.specs.Plans.{BitTree, BitTrees}
-use Rattle.plan_tree.specs.Views.{trees_of}
+use Rattle.plan_tree.specs.work.Views.{trees_of}
 use Rattle.plan_tree.specs.Space.{IsSameSet, others_named}
 use Rattle.plan_tree.proofs.PricingLemmas.{picked-below}
 

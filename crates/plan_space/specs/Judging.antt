@@ -21,11 +21,6 @@ abbrev pub IsWrongPair : Bool → CostAndRows → CostAndRows → ℕ → ℕ �
 IsWrongPair true pair own printed is = (printed ≡ pair.0) × (is ≡ own.0) × (printed ≢ is)
 IsWrongPair false pair own printed is = (pair.0 ≡ own.0) × (printed ≡ pair.1) × (is ≡ own.1) × (printed ≢ is)
 
--- an answer that names the line and the wrong number of a pair
-abbrev pub IsWrong : ℕ → CostAndRows → CostAndRows → Judged → Type 0
-IsWrong line pair own (Number at is_cost printed is) = (at ≡ line) × IsWrongPair is_cost pair own printed is
-IsWrong line pair own _ = ⊥
-
 module _ (c : Contents) (q : Query) where
   -- a join that is no plan of the space while both its sides are, but for the sorts on top of them; sorts count as part of the
   -- node above them
@@ -60,11 +55,6 @@ module _ (c : Contents) (q : Query) where
     pub before : take node ns ≡ take node (own_numbers c q p)
     pub line_is : line ≡ get_or (lines_from 1 p) node 0
     pub wrong : IsWrongPair is_cost (get_or ns node (0, 0)) (get_or (own_numbers c q p) node (0, 0)) printed own
-
-  -- an answer that names it
-  abbrev pub NamesWrong : Plan → List CostAndRows → Judged → Type 0
-  NamesWrong p ns (Number line is_cost printed own) = IsWrongNumber p ns line is_cost printed own
-  NamesWrong p ns _ = ⊥
 
   -- a finished plan below the limit with its own numbers
   pub record IsGood (p : Plan) (ns : List CostAndRows) : Type 0 where

@@ -1,9 +1,3 @@
-pub mod Ordered
-pub mod OrderKeys
-pub mod Sorts
 pub mod Numbered
-pub mod Parts
 pub mod Judging
-pub mod MergeLists
-pub mod PlanKeys
-pub mod Elements
+pub mod work

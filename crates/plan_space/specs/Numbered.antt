@@ -1,6 +1,6 @@
 -- The nodes and lines of a plan as it is printed, and the numbers that are its own: a cost and a number of rows for each
 -- node, the root's first, an outer side's before an inner's. Own.
-use Rattle.std.specs.Prelude.{ℕ, ◌+◌, List, [], ◌∷◌, ◌++◌, length, get_or}
+use Rattle.std.specs.Prelude.{ℕ, ◌+◌, List, [], ◌∷◌, ◌++◌, length}
 use Rattle.catalog.specs.Contents.{Contents}
 use Rattle.sql_query.specs.Queries.{Query}
 use Rattle.plan_tree.specs.Plans.{Plan, seq, index, index_only, bitmap, sort, nest, merge, BitTree, leaf, all_hold, some_arm, BitTrees, no_trees, tree_and}
@@ -66,7 +66,3 @@ module _ (c : Contents) (q : Query) where
   own_numbers (sort keys input) = own_pair (sort keys input) ∷ own_numbers input
   own_numbers (nest outer inner) = own_pair (nest outer inner) ∷ (own_numbers outer ++ own_numbers inner)
   own_numbers (merge keys outer inner) = own_pair (merge keys outer inner) ∷ (own_numbers outer ++ own_numbers inner)
-
--- the numbers of the node at a place, from 0, the root first
-abbrev pub own_numbers_at : Contents → Query → Plan → ℕ → CostAndRows
-own_numbers_at c q p place = get_or (own_numbers c q p) place (0, 0)

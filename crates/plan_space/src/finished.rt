@@ -4,9 +4,9 @@ ghost use Rattle.std.specs.Prelude.{◌≡◌, ◌<◌, ◌≤◌, ◌↔◌, �
 ghost use Rattle.pg_base.specs.Sets.{has};
 ghost use Rattle.sql_query.specs.Queries.{all_of_query, width};
 ghost use Rattle.plan_tree.specs.Plans as plans;
-ghost use Rattle.plan_tree.specs.Reads.{IsOverTables, ReadsBelow};
+ghost use Rattle.plan_tree.specs.work.Reads.{IsOverTables, ReadsBelow};
 ghost use Rattle.plan_tree.specs.Space.{IsBuilt, IsFinished, IsSameSet};
-ghost use Rattle.plan_tree.specs.Views.{plan};
+ghost use Rattle.plan_tree.specs.work.Views.{plan};
 
 use crate::joins::{is_merge, is_nest, param_of};
 use crate::order::meets_order;

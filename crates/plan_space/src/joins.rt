@@ -3,11 +3,11 @@
 
 ghost use Rattle.std.specs.Prelude.{◌≡◌, ◌≤◌, ◌↔◌, ℕ, IsTrue};
 ghost use Rattle.pg_base.specs.Sets.{has};
-ghost use Rattle.plan_tree.specs.Costable.{IsCostable};
+ghost use Rattle.plan_tree.specs.work.Costable.{IsCostable};
 ghost use Rattle.plan_tree.specs.Plans as plans;
-ghost use Rattle.plan_tree.specs.Reads.{IsOverTables, ReadsBelow};
-ghost use Rattle.plan_tree.specs.Views.{plan};
-ghost use Rattle.plan_space.specs.MergeLists.{AreWholeSides, TellsMergeList, are_classes_found, is_class_found};
+ghost use Rattle.plan_tree.specs.work.Reads.{IsOverTables, ReadsBelow};
+ghost use Rattle.plan_tree.specs.work.Views.{plan};
+ghost use Rattle.plan_space.specs.work.MergeLists.{AreWholeSides, TellsMergeList, are_classes_found, is_class_found};
 ghost use Rattle.plan_tree.specs.Space.{AreSides, IsMerge, IsNest};
 
 use crate::keys::is_at;

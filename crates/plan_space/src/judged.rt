@@ -1,13 +1,14 @@
 //! What is wrong with a written plan.
 
 ghost use Rattle.std.specs.Prelude.{◌≡◌, ◌<◌, ◌≤◌, IfNone, IfSome, length};
-ghost use Rattle.plan_tree.specs.Costable.{IsCostable};
-ghost use Rattle.plan_tree.specs.Costs.{HaveRows};
+ghost use Rattle.plan_tree.specs.work.Costable.{IsCostable};
+ghost use Rattle.plan_tree.specs.work.Costs.{HaveRows};
 ghost use Rattle.plan_tree.specs.Least.{IsAdmissible};
-ghost use Rattle.plan_tree.specs.Reads.{IsOverTables};
+ghost use Rattle.plan_tree.specs.work.Reads.{IsOverTables};
 ghost use Rattle.plan_tree.specs.Space.{IsBuilt, IsFinished};
-ghost use Rattle.plan_tree.specs.Views.{plan};
-ghost use Rattle.plan_space.specs.Judging.{IsJudged, IsWrong, NamesWrong, unsorted};
+ghost use Rattle.plan_tree.specs.work.Views.{plan};
+ghost use Rattle.plan_space.specs.Judging.{IsJudged, unsorted};
+ghost use Rattle.plan_space.specs.work.Judging.{IsWrong, NamesWrong};
 ghost use Rattle.plan_space.specs.Numbered.{line_count, nodes, own_numbers};
 ghost use Rattle.plan_space.specs.declared.lines.TheConstants.{MOST_LINES};
 

@@ -4,11 +4,11 @@ ghost use Rattle.std.specs.Prelude.{◌≡◌, ◌≤◌, ◌↔◌, IsTrue, Som
 ghost use Rattle.eq_classes.specs.declared.classes.ClassNo.{ClassNo as Numbered};
 ghost use Rattle.std.specs.Option.{option_map};
 ghost use Rattle.catalog.specs.Contents.{IsIndex};
-ghost use Rattle.pathkeys.specs.Finding.{class_numbers, is_class};
-ghost use Rattle.plan_tree.specs.Costable.{IsCostable};
+ghost use Rattle.pathkeys.specs.work.Finding.{class_numbers, is_class};
+ghost use Rattle.plan_tree.specs.work.Costable.{IsCostable};
 ghost use Rattle.plan_tree.specs.Keys as keys;
-ghost use Rattle.plan_tree.specs.Views.{plan};
-ghost use Rattle.plan_space.specs.PlanKeys.{KeysBeginWith, keys_of_scan, number_of_class};
+ghost use Rattle.plan_tree.specs.work.Views.{plan};
+ghost use Rattle.plan_space.specs.work.PlanKeys.{KeysBeginWith, keys_of_scan, number_of_class};
 
 use catalog::Catalog;
 use eq_classes::ClassNo;

@@ -1,8 +1,9 @@
 //! The lines of plans.
 
 ghost use Rattle.std.specs.Prelude.{◌≡◌, ◌≤◌};
-ghost use Rattle.plan_tree.specs.Views.{bits, bits_all, plan};
+ghost use Rattle.plan_tree.specs.work.Views.{bits, bits_all, plan};
 ghost use Rattle.plan_space.specs.Numbered as numbered;
+ghost use Rattle.plan_space.specs.work.Numbered as numbered_work;
 ghost use Rattle.plan_space.specs.Numbered.{bit_lines, all_bit_lines, line_count, nodes};
 ghost use Rattle.plan_space.specs.declared.lines.TheConstants.{MOST_LINES};
 

@@ -4,13 +4,14 @@ ghost use Rattle.std.specs.Prelude.{◌≡◌, ◌≤◌, ◌∷◌, ◌↔◌, 
 ghost use Rattle.std.specs.List.{list_any};
 ghost use Rattle.pg_base.specs.declared.limits.TheConstants.{MOST_COLUMNS};
 ghost use Rattle.eq_classes.specs.declared.classes.ClassNo.{ClassNo as Numbered};
-ghost use Rattle.pathkeys.specs.Finding.{class_numbers};
+ghost use Rattle.pathkeys.specs.work.Finding.{class_numbers};
 ghost use Rattle.pathkeys.specs.Keys as lists;
-ghost use Rattle.plan_tree.specs.Costable.{IsCostable};
+ghost use Rattle.pathkeys.specs.work.Keys as lists_work;
+ghost use Rattle.plan_tree.specs.work.Costable.{IsCostable};
 ghost use Rattle.plan_tree.specs.Keys as keys;
 ghost use Rattle.plan_tree.specs.Space.{IsBuilt, MeetsOrder};
-ghost use Rattle.plan_tree.specs.Views.{plan};
-ghost use Rattle.plan_space.specs.OrderKeys.{GoesOnPastClass, GoesOnPastItem, StopsAtClass, StopsAtItem, class_listed, classes_asked, is_order_begun, keys_asked};
+ghost use Rattle.plan_tree.specs.work.Views.{plan};
+ghost use Rattle.plan_space.specs.work.OrderKeys.{GoesOnPastClass, GoesOnPastItem, StopsAtClass, StopsAtItem, class_listed, classes_asked, is_order_begun, keys_asked};
 
 use crate::keys::key_at;
 use crate::sorts::sort_list;

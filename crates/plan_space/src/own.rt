@@ -1,13 +1,14 @@
 //! The numbers that are a plan's own, node by node.
 
 ghost use Rattle.std.specs.Prelude.{◌≡◌, ◌≢◌, ◌<◌, ◌≤◌, ◌+◌, get_or};
-ghost use Rattle.plan_tree.specs.Costable.{IsCostable};
-ghost use Rattle.plan_tree.specs.Costs.{HaveRows};
+ghost use Rattle.plan_tree.specs.work.Costable.{IsCostable};
+ghost use Rattle.plan_tree.specs.work.Costs.{HaveRows};
 ghost use Rattle.plan_tree.specs.Least.{IsAdmissible};
-ghost use Rattle.plan_tree.specs.Reads.{IsOverTables};
-ghost use Rattle.plan_tree.specs.Views.{plan};
-ghost use Rattle.plan_space.specs.Parts.{IsFoundIn};
-ghost use Rattle.plan_space.specs.Numbered.{line_count, lines_from, nodes, own_numbers_at, own_pair};
+ghost use Rattle.plan_tree.specs.work.Reads.{IsOverTables};
+ghost use Rattle.plan_tree.specs.work.Views.{plan};
+ghost use Rattle.plan_space.specs.work.Parts.{IsFoundIn};
+ghost use Rattle.plan_space.specs.Numbered.{line_count, lines_from, nodes, own_pair};
+ghost use Rattle.plan_space.specs.work.Numbered.{own_numbers_at};
 ghost use Rattle.plan_space.specs.declared.lines.TheConstants.{MOST_LINES};
 
 use crate::lines::{count_lines, count_nodes};

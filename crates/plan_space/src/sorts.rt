@@ -2,11 +2,11 @@
 
 ghost use Rattle.std.specs.Prelude.{◌≡◌, ◌≤◌, ◌↔◌, IsTrue, length};
 ghost use Rattle.std.specs.Option.{option_map};
-ghost use Rattle.plan_tree.specs.Costable.{IsCostable};
+ghost use Rattle.plan_tree.specs.work.Costable.{IsCostable};
 ghost use Rattle.plan_tree.specs.Plans as plans;
 ghost use Rattle.plan_tree.specs.Space.{HasKeys};
-ghost use Rattle.plan_tree.specs.Views.{plan};
-ghost use Rattle.plan_space.specs.Sorts as sorts;
+ghost use Rattle.plan_tree.specs.work.Views.{plan};
+ghost use Rattle.plan_space.specs.work.Sorts as sorts;
 
 use crate::keys::keys_begin_with;
 use catalog::Catalog;

@@ -8,8 +8,9 @@ use Rattle.sql_query.specs.Queries.{Query}
 use Rattle.sql_query.specs.declared.window.Window.{Window}
 use Rattle.pathkeys.specs.Keys.{covers}
 use Rattle.plan_tree.specs.Least.{Dominates, IsStartupAtMost}
-use Rattle.plan_tree.specs.Paths.{Path, HasItsNumbers, is_at_most, startup_kept}
-use Rattle.plan_tree.specs.Ranks.{parts-of, from-parts}
+use Rattle.plan_tree.specs.Paths.{startup_kept}
+use Rattle.plan_tree.specs.work.Paths.{Path, HasItsNumbers, is_at_most}
+use Rattle.plan_tree.specs.work.Ranks.{parts-of, from-parts}
 
 startup-less : (w : Option Window) (a b m n : ℕ) → a ≡ startup_kept w m → b ≡ startup_kept w n → a ≤ b → IsStartupAtMost w m n
 startup-less None a b m n e f h = tt

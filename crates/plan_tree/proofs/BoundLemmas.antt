@@ -20,7 +20,8 @@ use Rattle.sql_query.specs.declared.window.Window.{Window}
 use Rattle.path_cost.specs.Estimates.{pairs, set_rows}
 use Rattle.pathkeys.specs.Keys.{Keys}
 use Rattle.plan_tree.specs.Plans.{Plan, seq, index, index_only, bitmap, sort, nest, merge, set_of, GivenScan, given_scan}
-use Rattle.plan_tree.specs.Costs.{cost, estimate, rows_given, join_operators, merge_operators, asked, asked_by, HaveRows}
+use Rattle.plan_tree.specs.Costs.{cost, estimate, rows_given, join_operators, merge_operators, asked, asked_by}
+use Rattle.plan_tree.specs.work.Costs.{HaveRows}
 use Rattle.path_cost.proofs.LimitLemmas.{some-sized}
 
 pub some-clamped : (n : ℕ) → 1 ≤ clamped n

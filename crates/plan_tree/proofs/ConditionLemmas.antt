@@ -11,7 +11,7 @@ use Rattle.eq_classes.specs.Clauses.{Clause, Set, ClassTable}
 use Rattle.eq_classes.specs.Listing.{clause_at}
 use Rattle.index_match.specs.Numbered.{Numbered, conditions_of, has_number}
 use Rattle.index_match.specs.Conditions.{index_conditions}
-use Rattle.index_match.specs.Slots.{chosen_from, is_found, is_number, least, numbered_at, numbered_from}
+use Rattle.index_match.specs.work.Slots.{chosen_from, is_found, is_number, least, numbered_at, numbered_from}
 use Rattle.index_match.proofs.FoundLemmas.{btree_conditions, chosen_numbers, hash_conditions}
 use Rattle.index_match.proofs.PartLemmas.{conditions_local}
 use Rattle.path_cost.specs.Estimates.{conditions_from}

@@ -14,7 +14,7 @@ use Rattle.index_match.specs.Numbered.{Numbered, local}
 use Rattle.sql_query.specs.Queries.{Query}
 use Rattle.plan_tree.specs.Plans.{Plan, seq, index, index_only, bitmap, sort, nest, merge, BitTree, leaf, all_hold, some_arm, BitTrees, no_trees, tree_and}
 use Rattle.plan_tree.specs.Bitmaps.{Element, by_index, by_clause, ArePicked, none_left, picked, passed, MOST_ELEMENTS, MatchesArm, IsBitTree, IsElement, HasArms, HaveArms, element_of, elements_of, condition_at, candidates, table_of_relation}
-use Rattle.plan_tree.specs.Costable.{IsCostable, IsCostableTree, AreCostableTrees, IsMatchedBy}
+use Rattle.plan_tree.specs.work.Costable.{IsCostable, IsCostableTree, AreCostableTrees, IsMatchedBy}
 use Rattle.plan_tree.specs.Space.{IsBuilt}
 use Rattle.plan_tree.proofs.ElementLemmas.{is-listed, listed-on}
 

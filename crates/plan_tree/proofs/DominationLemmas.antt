@@ -9,7 +9,8 @@ use Rattle.plan_tree.specs.Plans.{Plan, seq, index, index_only, bitmap, sort, ne
 use Rattle.plan_tree.specs.Keys.{keys_of}
 use Rattle.plan_tree.specs.Costs.{cost}
 use Rattle.plan_tree.specs.Space.{IsLike, IsBuilt, IsNest, IsMerge, IsMergeList, HasKeys}
-use Rattle.plan_tree.specs.Least.{Dominates, IsStartupAtMost, StandsFor}
+use Rattle.plan_tree.specs.Least.{Dominates, IsStartupAtMost}
+use Rattle.plan_tree.specs.work.Least.{StandsFor}
 use Rattle.pathkeys.proofs.CoveringLemmas.{covers-refl, covers-trans}
 use Rattle.plan_tree.proofs.ReplacingLemmas.{nest-replaced, nest-totals, merge-replaced, merge-totals, sort-totals}
 use Rattle.plan_tree.proofs.LikeLemmas.{set-like}

@@ -13,7 +13,7 @@ use Rattle.pg_base.specs.declared.numbers.TableNo.{TableNo}
 use Rattle.pg_expr.specs.Cond.{Cond, compare, is_null, is_not_null, bool_col, const, all_of, any_of, negation}
 use Rattle.pg_expr.specs.Columns.{atom_count, atom_count_of, each_column, each_column_of}
 use Rattle.pg_expr.specs.Typed.{AreTyped}
-use Rattle.pg_expr.specs.View as view
+use Rattle.pg_expr.specs.work.View as view
 use Rattle.pg_expr.specs.declared.expr.Expr.{Expr}
 use Rattle.index_match.specs.predicate_proof_Atoms.{is_any}
 use Rattle.sql_query.specs.catalog_Contents.{Contents, NamedIndex, no_index, numbers_from, indexes_of, IsIndex}
@@ -21,8 +21,8 @@ use Rattle.sql_query.specs.catalog_Range.{Range, type_in}
 use Rattle.eq_classes.specs.Clauses.{Clause}
 use Rattle.eq_classes.specs.Listing.{clause_at}
 use Rattle.eq_classes.proofs.ClasswiseLemmas.{same_truth}
-use Rattle.path_cost.specs.Columns.{IsOver, is_column_in}
-use Rattle.pg_expr.specs.AtomSets.{contains}
+use Rattle.path_cost.specs.work.Columns.{IsOver, is_column_in}
+use Rattle.pg_expr.specs.work.AtomSets.{contains}
 use Rattle.index_match.specs.Numbered.{Numbered, has_number}
 use Rattle.sql_query.specs.Queries.{Query}
 use Rattle.index_match.specs.Arms.{arms_of}

@@ -9,7 +9,7 @@ use Rattle.sql_query.specs.Queries.{Query}
 use Rattle.path_cost.specs.Estimates.{param_rows, set_rows}
 use Rattle.plan_tree.specs.Plans.{Plan, seq, index, index_only, bitmap, sort, nest, merge, set_of, given_scan}
 use Rattle.plan_tree.specs.Costs.{estimate, rows_given}
-use Rattle.plan_tree.specs.Reads.{ReadsBelow, scan_of}
+use Rattle.plan_tree.specs.work.Reads.{ReadsBelow, scan_of}
 
 -- a plan that reads relations below a number reads relations below a greater one
 pub below-more : (m n : ℕ) (p : Plan) → m ≤ n → ReadsBelow m p → ReadsBelow n p

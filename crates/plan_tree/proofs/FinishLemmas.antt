@@ -8,7 +8,8 @@ use Rattle.sql_query.specs.declared.window.Window.{Window}
 use Rattle.pathkeys.specs.Keys.{Keys, covers, order_keys}
 use Rattle.plan_tree.specs.Plans.{Plan, seq, index, index_only, bitmap, sort, nest, merge, is_sort}
 use Rattle.plan_tree.specs.Keys.{keys_of}
-use Rattle.plan_tree.specs.Costs.{cost, price, price_by, asked, query_rows, HaveRows}
+use Rattle.plan_tree.specs.Costs.{cost, price, price_by, asked, query_rows}
+use Rattle.plan_tree.specs.work.Costs.{HaveRows}
 use Rattle.plan_tree.specs.Space.{IsBuilt, MeetsOrder, IsFinished}
 use Rattle.plan_tree.specs.Least.{Dominates, IsStartupAtMost}
 use Rattle.pathkeys.proofs.CoveringLemmas.{covers-trans}

@@ -2,17 +2,17 @@
 use Rattle.std.proofs.Common.{◌≡◌, ◌⊎◌, zero, suc, Bool, true, List, [], ◌∷◌, map, inl, inr, refl, sym, ◌∙◌, ap, subst, arith, Result, Ok, Err, OnOk, IfErr}
 use Rattle.std.specs.Prelude.{All, Contains}
 use Rattle.std.proofs.lemmas.List.Elements.{All-map, All-weaker, All-contains, All-contains_itself, Contains-append_right}
-use Rattle.pareto.specs.Front.{AreKeptOr, IsCovered}
+use Rattle.pareto.specs.work.Front.{AreKeptOr, IsCovered}
 use Rattle.sql_query.specs.catalog_Contents.{Contents}
 use Rattle.eq_classes.specs.Clauses.{Set}
 use Rattle.sql_query.specs.Queries.{Query}
 use Rattle.plan_tree.specs.Plans.{Plan}
 use Rattle.plan_tree.specs.Space.{IsPlanOf}
 use Rattle.plan_tree.specs.Least.{IsAdmissible, Dominates}
-use Rattle.plan_tree.specs.Paths.{Path, IsPathOf}
-use Rattle.plan_tree.specs.Fronts.{AreOldOrOffers, ArePathsOf, HasDominating, IsOffer, StayDominated}
-use Rattle.plan_tree.specs.Views.{is_path_at_most, path}
-use Rattle.plan_tree.specs.Ranks.{at-most-refl}
+use Rattle.plan_tree.specs.work.Paths.{Path, IsPathOf}
+use Rattle.plan_tree.specs.work.Fronts.{AreOldOrOffers, ArePathsOf, HasDominating, IsOffer, StayDominated}
+use Rattle.plan_tree.specs.work.Views.{is_path_at_most, path}
+use Rattle.plan_tree.specs.work.Ranks.{at-most-refl}
 use Rattle.plan_tree.specs.declared.path.Path.{Path as Costed}
 use Rattle.plan_tree.proofs.AtMostLemmas.{at-most-dominates}
 use Rattle.plan_tree.proofs.DominationLemmas.{dominates-trans}

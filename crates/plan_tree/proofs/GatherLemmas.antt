@@ -8,7 +8,7 @@ use Rattle.pg_base.specs.declared.numbers.IndexNo.{IndexNo}
 use Rattle.eq_classes.specs.Clauses.{Clause}
 use Rattle.index_match.specs.Numbered.{Numbered, numbered}
 use Rattle.plan_tree.specs.Bitmaps.{Element, by_index, by_clause, ArePicked, none_left, picked, passed, MOST_ELEMENTS}
-use Rattle.plan_tree.specs.Gathering.{Gathered}
+use Rattle.plan_tree.specs.work.Gathering.{Gathered}
 
 -- the first of a list are those of its first and of what follows
 taken-twice : {X : Type 0} (n : ℕ) (xs ys : List X) → take n (take n xs ++ ys) ≡ take n (xs ++ ys)

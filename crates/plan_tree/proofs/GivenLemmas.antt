@@ -8,12 +8,12 @@ use Rattle.pg_expr.specs.Columns.{names_rel}
 use Rattle.sql_query.specs.catalog_Contents.{Contents}
 use Rattle.eq_classes.specs.Clauses.{Clause, one}
 use Rattle.eq_classes.proofs.InsideLemmas.{column_both}
-use Rattle.path_cost.specs.Columns.{IsOver, is_column_in}
+use Rattle.path_cost.specs.work.Columns.{IsOver, is_column_in}
 use Rattle.path_cost.specs.Estimates.{conditions_from}
 use Rattle.sql_query.specs.Queries.{Query, width}
 use Rattle.std.proofs.Math.Bool.{or_self}
 use Rattle.plan_tree.specs.Plans.{Plan, seq, index, index_only, bitmap, sort, nest, merge, given_scan, is_empty, param_of, set_of, GivenScan}
-use Rattle.plan_tree.specs.Reads.{ReadsBelow}
+use Rattle.plan_tree.specs.work.Reads.{ReadsBelow}
 use Rattle.plan_tree.specs.Space.{IsEmpty, IsSameSet}
 use Rattle.plan_tree.proofs.LikeLemmas.{given-like}
 use Rattle.pg_base.specs.declared.numbers.RelNo.{RelNo}

@@ -5,19 +5,21 @@ use Rattle.std.specs.Prelude.{Option, Some, None, option_map}
 use Rattle.pg_base.specs.Sets.{has}
 use Rattle.pg_base.specs.declared.numbers.RelNo.{RelNo}
 use Rattle.pg_base.specs.declared.rel_set.RelSet.{RelSet}
-use Rattle.pg_expr.specs.AtomSets.{contains}
+use Rattle.pg_expr.specs.work.AtomSets.{contains}
 use Rattle.cost_rules.specs.declared.pair.Pair.{Pair}
-use Rattle.cost_rules.specs.Costs.{pair, capped, capped_pair, nest_cost, merge_cost}
+use Rattle.cost_rules.specs.Costs.{pair, nest_cost, merge_cost}
+use Rattle.cost_rules.specs.work.Costs.{capped, capped_pair}
 use Rattle.cost_rules.proofs.CapLemmas.{nest-capped, merge-capped}
 use Rattle.eq_classes.specs.Clauses.{Set, Clause}
 use Rattle.eq_classes.specs.Listing.{clause_at}
 use Rattle.eq_classes.specs.Parts.{is_join, is_join_param}
 use Rattle.path_cost.specs.Costs.{operators}
-use Rattle.path_cost.specs.Estimates.{conditions_from, conditions_where, either_but, is_pair_of}
+use Rattle.path_cost.specs.Estimates.{conditions_from, conditions_where, is_pair_of}
+use Rattle.path_cost.specs.work.Estimates.{either_but}
 use Rattle.path_cost.proofs.CostLemmas.{work-cut}
 use Rattle.path_cost.proofs.KeptLemmas.{where-from}
 use Rattle.plan_tree.specs.Plans.{Plan, set_of, given_scan, joins, joins_with}
-use Rattle.plan_tree.specs.Reads.{scan_of}
+use Rattle.plan_tree.specs.work.Reads.{scan_of}
 
 pub joining-whole : (ks : List Clause) (set : List ℕ) (a b : RelSet) (o i : Plan) (found : Option (RelNo × RelSet)) → ((k : ℕ) → contains set k ≡ nat_lt k (length ks) && is_join (has a.0) (has b.0) (clause_at ks k)) →
     ((n : ℕ) → has a.0 n ≡ set_of o n) → ((n : ℕ) → has b.0 n ≡ set_of i n) → option_map scan_of found ≡ given_scan i → found ≡ None →

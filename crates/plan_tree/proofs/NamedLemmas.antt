@@ -5,17 +5,18 @@ use Rattle.std.proofs.lemmas.Bool.{and_parts, lt-ltb, ltb-true}
 use Rattle.std.proofs.lemmas.List.Elements.{All-get_or}
 use Rattle.std.proofs.Math.Bool.{or-false, or_assoc}
 use Rattle.pg_expr.specs.Cond.{Cond}
-use Rattle.pg_expr.specs.Columns.{names_rel, rels_below}
+use Rattle.pg_expr.specs.Columns.{names_rel}
+use Rattle.pg_expr.specs.work.Columns.{rels_below}
 use Rattle.pg_expr.proofs.ColumnLaws.{weaker-each}
 use Rattle.sql_query.specs.catalog_Contents.{Contents}
 use Rattle.eq_classes.specs.Clauses.{Clause}
 use Rattle.eq_classes.specs.Listing.{clause_at}
-use Rattle.path_cost.specs.Columns.{IsOver, is_column_in}
+use Rattle.path_cost.specs.work.Columns.{IsOver, is_column_in}
 use Rattle.path_cost.specs.Estimates.{conditions_from}
 use Rattle.path_cost.proofs.CostLemmas.{none-left}
 use Rattle.path_cost.proofs.KeptLemmas.{conditions-at}
 use Rattle.sql_query.specs.Queries.{Query}
-use Rattle.plan_tree.specs.Reads.{IsOverTables}
+use Rattle.plan_tree.specs.work.Reads.{IsOverTables}
 
 -- the relations of a clause of a query are those that a set may hold
 pub few-relations : (c : Contents) (q : Query) (n : ℕ) → IsOverTables c q → n < length q.classes.clauses → IsTrue (rels_below 16 (clause_at q.classes.clauses n).cond)

@@ -11,11 +11,12 @@ use Rattle.pg_base.specs.declared.numbers.RelNo.{RelNo}
 use Rattle.pg_base.specs.declared.rel_set.RelSet.{RelSet}
 use Rattle.pg_base.specs.Sets.{has}
 use Rattle.pg_expr.specs.Cond.{Cond, any_of}
-use Rattle.pg_expr.specs.View as view
+use Rattle.pg_expr.specs.work.View as view
 use Rattle.pg_expr.specs.declared.expr.Expr.{Expr}
 use Rattle.sql_query.specs.catalog_Contents.{Contents, index_at}
 use Rattle.cost_rules.specs.declared.parameters.TheConstants.{MOST_COST}
-use Rattle.cost_rules.specs.Costs.{capped, capped_pair, pair}
+use Rattle.cost_rules.specs.Costs.{pair}
+use Rattle.cost_rules.specs.work.Costs.{capped, capped_pair}
 use Rattle.sql_query.specs.catalog_Range.{Range}
 use Rattle.cost_rules.specs.Scans.{bitmap_scan_cost}
 use Rattle.eq_classes.specs.Clauses.{Set, ClassTable}
@@ -31,10 +32,10 @@ use Rattle.path_cost.specs.Runs.{runs}
 use Rattle.sql_query.specs.Queries.{Query, width}
 use Rattle.plan_tree.specs.Plans.{Plan, seq, index, index_only, bitmap, sort, nest, merge, BitTree, all_hold, some_arm}
 use Rattle.plan_tree.specs.Bitmaps.{some_uses, uses}
-use Rattle.plan_tree.specs.Costable.{IsCostable, IsCostableTree, AreCostableTrees, IsMatchedBy}
+use Rattle.plan_tree.specs.work.Costable.{IsCostable, IsCostableTree, AreCostableTrees, IsMatchedBy}
 use Rattle.plan_tree.specs.Costs.{together, part_of, parts_of_all, parts_of_arms}
-use Rattle.plan_tree.specs.Reads.{ReadsBelow}
-use Rattle.plan_tree.specs.Views.{bits, bits_all, trees_of}
+use Rattle.plan_tree.specs.work.Reads.{ReadsBelow}
+use Rattle.plan_tree.specs.work.Views.{bits, bits_all, trees_of}
 use Rattle.plan_tree.specs.declared.bits.BitTrees.{BitTrees as Many}
 use Rattle.plan_tree.specs.declared.bits.BitTree.{Or}
 use Rattle.plan_tree.specs.declared.bits.BitTree.TheViews.{And, the_lemmas}

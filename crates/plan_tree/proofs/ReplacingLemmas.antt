@@ -2,7 +2,8 @@
 use Rattle.std.proofs.Common.{◌≡◌, ◌≤◌, le_refl, ℕ, not, ◌&&◌, length, ap, subst}
 use Rattle.sql_query.specs.catalog_Contents.{Contents}
 use Rattle.cost_rules.specs.declared.pair.Pair.{Pair}
-use Rattle.cost_rules.specs.Costs.{pair, IsAtMost, sort_cost, nest_cost, merge_cost}
+use Rattle.cost_rules.specs.Costs.{pair, sort_cost, nest_cost, merge_cost}
+use Rattle.cost_rules.specs.work.Costs.{IsAtMost}
 use Rattle.cost_rules.proofs.RisingLemmas.{sort-rises, nest-rises, merge-rises}
 use Rattle.eq_classes.specs.Clauses.{Set, Clause}
 use Rattle.eq_classes.specs.Parts.{is_join}

@@ -2,7 +2,7 @@
 use Rattle.std.proofs.Common.{ℕ, arith}
 use Rattle.std.specs.Prelude.{Option, Some, None}
 use Rattle.sql_query.specs.catalog_Contents.{Contents}
-use Rattle.cost_rules.specs.Costs.{IsEstimate}
+use Rattle.cost_rules.specs.work.Costs.{IsEstimate}
 use Rattle.cost_rules.specs.Powers.{clamped}
 use Rattle.eq_classes.specs.Clauses.{Set}
 use Rattle.path_cost.specs.Estimates.{set_rows}

@@ -2,12 +2,13 @@
 use Rattle.std.proofs.Common.{◌≡◌, ◌<◌, ℕ, ◌&&◌, ◌||◌, Bool, true, false, List, length, nat_lt, arith, ap, ap₂, refl, ◌∙◌}
 use Rattle.std.proofs.lemmas.Grind.{common_steps}
 use Rattle.pg_base.specs.declared.numbers.IndexNo.{IndexNo}
-use Rattle.pg_expr.specs.AtomSets.{contains}
+use Rattle.pg_expr.specs.work.AtomSets.{contains}
 use Rattle.sql_query.specs.catalog_Contents.{Contents}
 use Rattle.eq_classes.specs.Clauses.{Set, ClassTable}
 use Rattle.index_match.specs.Numbered.{has_number}
 use Rattle.index_match.specs.Conditions.{index_conditions}
-use Rattle.index_match.specs.Bounds.{index_bounds, index_tests}
+use Rattle.index_match.specs.Bounds.{index_bounds}
+use Rattle.index_match.specs.work.Bounds.{index_tests}
 use Rattle.index_match.proofs.PartLemmas.{conditions_local, in_either}
 use Rattle.pg_base.proofs.NumberLemmas.{test-below as inside}
 

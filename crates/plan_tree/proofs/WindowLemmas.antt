@@ -1,15 +1,18 @@
 -- What a path keeps of the costs of its plan, as the query has a window or not.
 use Rattle.std.proofs.Common.{◌≡◌, ◌<◌, ◌≤◌, ◌+◌, ℕ, None, Option, Some, refl, sym, ◌∙◌, ap, ap₂, le_refl, arith}
 use Rattle.sql_query.specs.catalog_Contents.{Contents}
-use Rattle.cost_rules.specs.Costs.{capped, capped_pair, merge_cost, nest_cost, pair, sort_cost, sort_work}
+use Rattle.cost_rules.specs.Costs.{merge_cost, nest_cost, pair, sort_cost, sort_work}
+use Rattle.cost_rules.specs.work.Costs.{capped, capped_pair}
 use Rattle.cost_rules.specs.declared.pair.Pair.{Pair}
 use Rattle.cost_rules.specs.declared.parameters.TheConstants.{MOST_COST}
 use Rattle.cost_rules.proofs.CapLemmas.{sort-capped}
 use Rattle.sql_query.specs.Queries.{Query}
 use Rattle.sql_query.specs.declared.window.Window.{Window}
-use Rattle.plan_tree.specs.Costs.{HaveRows, cost}
+use Rattle.plan_tree.specs.Costs.{cost}
+use Rattle.plan_tree.specs.work.Costs.{HaveRows}
 use Rattle.plan_tree.specs.Least.{IsAdmissible, IsStartupAtMost}
-use Rattle.plan_tree.specs.Paths.{HasItsNumbers, Path, kept_cost, startup_kept}
+use Rattle.plan_tree.specs.Paths.{startup_kept}
+use Rattle.plan_tree.specs.work.Paths.{HasItsNumbers, Path, kept_cost}
 use Rattle.plan_tree.proofs.BoundLemmas.{startup-most}
 
 -- the startup that is kept is no greater, and counts where there is a window

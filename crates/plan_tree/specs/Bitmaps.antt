@@ -1,27 +1,19 @@
 -- Which bitmap trees there are, and what they use (PostgreSQL manual, Combining Multiple Indexes;
 -- src/backend/optimizer/path/indxpath.c, choose_bitmap_and and generate_bitmap_or_paths; the first 8 elements are own).
-use Rattle.std.specs.Prelude.{◌≡◌, ◌≤◌, ℕ, ◌||◌, Bool, true, false, nat_eq, nat_lt, List, [], ◌∷◌, ◌++◌, length, map, take, Contains, slice_get, Option, Some, None, ◌<◌, All, IsTrue}
+use Rattle.std.specs.Prelude.{◌≡◌, ◌≤◌, ℕ, ◌||◌, Bool, true, false, nat_eq, nat_lt, List, [], ◌∷◌, ◌++◌, length, map, take, Contains, slice_get, Option, Some, None}
 use Rattle.std.specs.List.{AllZip, AllByRecursion, items_where_true}
 use Rattle.pg_base.specs.declared.numbers.IndexNo.{IndexNo}
 use Rattle.pg_base.specs.declared.numbers.TableNo.{TableNo}
 use Rattle.pg_expr.specs.Cond.{Cond, any_of, no_conds}
-use Rattle.pg_expr.specs.View as view
 use Rattle.sql_query.specs.catalog_Contents.{Contents, IsIndex, index_at, indexes_of}
 use Rattle.sql_query.specs.catalog_Range.{relation_at}
-use Rattle.eq_classes.specs.Clauses.{Set, Clause, ClassTable}
+use Rattle.eq_classes.specs.Clauses.{Set, Clause}
 use Rattle.index_match.specs.Numbered.{Numbered, has_number, local}
 use Rattle.sql_query.specs.Queries.{Query}
 use Rattle.index_match.specs.Conditions.{index_conditions}
 use Rattle.index_match.specs.Arms.{arms_of, is_matched}
 use Rattle.index_match.specs.Usable.{IsUsable}
 use Rattle.plan_tree.specs.Plans.{BitTree, leaf, all_hold, some_arm, BitTrees, no_trees, tree_and}
-use Rattle.pg_base.specs.Sets.{has}
-use Rattle.pg_base.specs.declared.limits.TheConstants.{MOST_ATOMS}
-use Rattle.pg_base.specs.declared.numbers.RelNo.{RelNo}
-use Rattle.pg_base.specs.declared.rel_set.RelSet.{RelSet}
-use Rattle.pg_expr.specs.AtomSets.{contains}
-use Rattle.pg_expr.specs.Columns.{atom_count}
-use Rattle.pg_expr.specs.declared.expr.Expr.{Expr}
 
 -- how many elements may be combined
 abbrev pub MOST_ELEMENTS : ℕ
@@ -37,10 +29,6 @@ pub data ArePicked {X : Type 0} (P : X → Type 0) : List X → List X → Type 
 pub data Element : Type 0 where
   by_index : IndexNo → Element
   by_clause : ℕ → Element
-
--- elements with one more at the end, where there is room
-abbrev pub with_element : List Element → Element → List Element
-with_element es e = take MOST_ELEMENTS (es ++ e ∷ [])
 
 -- the table of a relation
 abbrev pub table_of_relation : Query → ℕ → TableNo
@@ -79,30 +67,6 @@ condition_by (Some k) = k.cond
 -- the condition of the clause of a number, from 0, of the query
 abbrev pub condition_at : Query → ℕ → Cond
 condition_at q n = condition_by (slice_get q.classes.clauses n)
-
--- the clause of a number is no OR
-abbrev pub IsNoOr : Query → ℕ → Type 0
-IsNoOr q n = is_or (condition_at q n) ≡ false
-
--- the clause of a number is an OR with no arms, or none
-abbrev pub HasNoArms : Query → ℕ → Type 0
-HasNoArms q n = arms_of (condition_at q n) ≡ []
-
--- the clause of a number is an OR of these
-abbrev pub IsOrOf : Query → ℕ → List Expr → Type 0
-IsOrOf q n es = condition_at q n ≡ any_of (view.conds es)
-
--- each of some expressions has few atoms
-abbrev pub AreOfFewAtoms : List Expr → Type 0
-AreOfFewAtoms es = All (λ (e : Expr). atom_count (view.cond e) ≤ MOST_ATOMS) es
-
--- the clause of a number is an OR each of whose arms some index matches
-abbrev pub IsMatchedAt : Contents → Query → ℕ → ℕ → Type 0
-IsMatchedAt c q r n = IsMatchedOr c q r (condition_at q n)
-
--- a set has the number of a clause
-abbrev pub HasNumber : ClassTable → List ℕ → Type 0
-HasNumber t set = (n : ℕ) × (n < length t.clauses) × IsTrue (contains set n)
 
 module _ (c : Contents) (q : Query) (r : ℕ) (p : Set) where
   -- an index is an element where it is usable and has a condition; a clause where it is an OR that is matched
@@ -162,7 +126,3 @@ module _ (c : Contents) (q : Query) (r : ℕ) (p : Set) where
     pub some_uses : BitTrees → ℕ → Bool
     some_uses no_trees n = false
     some_uses (tree_and b bs) n = uses b n || some_uses bs n
-
--- a list has the first elements of a relation with a parameterisation
-abbrev pub AreFirstElements : Contents → Query → RelNo → RelSet → List Element → Type 0
-AreFirstElements c q r p kept = (es : List Element) × AreElements c q r.0 (has p.0) es × (kept ≡ take MOST_ELEMENTS es)

@@ -1,11 +1,10 @@
 -- The estimated rows, the cost and the price of a plan, by its structure. They are exact: no number is cut. Own.
-use Rattle.std.specs.Prelude.{ℕ, ◌≤◌, ◌+◌, ◌-◌, ◌*◌, min, Bool, not, true, false, ◌&&◌, List, [], ◌∷◌, length, sum, Option, Some, None, map}
+use Rattle.std.specs.Prelude.{ℕ, ◌+◌, ◌-◌, ◌*◌, min, Bool, not, true, false, ◌&&◌, List, [], ◌∷◌, length, sum, Option, Some, None}
 use Rattle.pg_base.specs.Sets.{has}
 use Rattle.pg_base.specs.declared.numbers.IndexNo.{IndexNo}
 use Rattle.pg_base.specs.declared.numbers.RelNo.{RelNo}
 use Rattle.pg_base.specs.declared.rel_set.RelSet.{RelSet}
 use Rattle.pg_expr.specs.Cond.{Cond}
-use Rattle.pg_expr.specs.View as view
 use Rattle.sql_query.specs.catalog_Contents.{Contents, index_at}
 use Rattle.eq_classes.specs.Clauses.{Set}
 use Rattle.eq_classes.specs.Parts.{is_join}
@@ -15,7 +14,7 @@ use Rattle.sql_query.specs.declared.window.Window.{Window}
 use Rattle.cost_rules.specs.declared.pair.Pair.{Pair}
 use Rattle.cost_rules.specs.declared.parameters.TheConstants.{BITMAP_CHILD}
 use Rattle.cost_rules.specs.Costs.{sort_cost, nest_cost, merge_cost, price_of}
-use Rattle.path_cost.specs.Estimates.{conditions_where, is_pair_of, pairs, param_rows, set_rows, table_rows}
+use Rattle.path_cost.specs.Estimates.{conditions_where, is_pair_of, pairs, param_rows, set_rows}
 use Rattle.path_cost.specs.Costs.{operators, seq_cost, bitmap_cost, index_cost, index_part, arm_part}
 use Rattle.pathkeys.specs.Keys.{Keys}
 use Rattle.index_match.specs.Arms.{arms_of, arm_parts, arm_bounds}
@@ -23,7 +22,6 @@ use Rattle.index_match.specs.Conditions.{index_conditions}
 use Rattle.index_match.specs.Bounds.{index_bounds}
 use Rattle.plan_tree.specs.Plans.{Plan, seq, index, index_only, bitmap, sort, nest, merge, BitTree, leaf, all_hold, some_arm, BitTrees, no_trees, tree_and, set_of, GivenScan, given_scan, joins}
 use Rattle.plan_tree.specs.Bitmaps.{condition_at, uses}
-use Rattle.pg_expr.specs.declared.expr.Expr.{Expr}
 
 -- the parts of indexes together, with so much for each after the first
 abbrev pub together : List ℕ → ℕ
@@ -78,14 +76,6 @@ module _ (c : Contents) (q : Query) where
     parts_of_all r p no_trees = []
     parts_of_all r p (tree_and b bs) = part_of r p b ∷ parts_of_all r p bs
 
-  -- the parts of the indexes of some arms together
-  abbrev pub arms_together : RelNo → RelSet → List Expr → List IndexNo → ℕ
-  arms_together r p arms is = together (parts_of_arms r p (map view.cond arms) is)
-
-  -- the parts of the indexes of some bitmap trees together
-  abbrev pub trees_together : RelNo → RelSet → BitTrees → ℕ
-  trees_together r p bs = together (parts_of_all r p bs)
-
   -- the cost of an index scan or an index-only scan by the relation's clauses and the parameterisation, in 1/400 of a
   -- sequential page
   abbrev pub scan_cost : RelNo → IndexNo → RelSet → Bool → Pair
@@ -100,10 +90,6 @@ module _ (c : Contents) (q : Query) where
   cost (sort keys input) = sort_cost (cost input) (set_rows c q.range q.classes (set_of input))
   cost (nest outer inner) = nest_cost (cost outer) (cost inner) (estimate outer) (estimate inner) (join_operators q outer inner)
   cost (merge keys outer inner) = merge_cost (cost outer) (cost inner) (estimate outer) (estimate inner) (length keys) (pairs c q.range q.classes (set_of outer) (set_of inner) keys) (merge_operators q keys outer inner)
-
-  -- the table of each relation is taken to have a row
-  abbrev pub HaveRows : Type 0
-  HaveRows = (r : ℕ) → 1 ≤ table_rows c q.range r
 
   -- the rows that the whole query is taken to give
   abbrev pub query_rows : ℕ

@@ -22,19 +22,10 @@ use Rattle.index_match.specs.Usable.{IsUsable, holds_columns}
 use Rattle.plan_tree.specs.Plans.{Plan, seq, index, index_only, bitmap, sort, nest, merge, BitTree, set_of, param_of, is_empty, is_sort}
 use Rattle.plan_tree.specs.Bitmaps.{IsIndexOn, IsBitTree, uses}
 use Rattle.plan_tree.specs.Keys.{keys_of}
-use Rattle.pg_expr.specs.AtomSets.{contains}
 
 -- the relations other than r that conditions name
 abbrev pub others_named : ℕ → List Cond → Set
 others_named r es k = not (nat_eq k r) && list_any (names_rel k) es
-
--- the conditions of the clauses of a set
-abbrev pub conditions_in : Query → List ℕ → List Cond
-conditions_in q set = conditions_from 0 (contains set) q.classes.clauses
-
--- the relations other than r that the conditions of the clauses of a set name
-abbrev pub named_beside : Query → RelNo → List ℕ → Set
-named_beside q r set = others_named r.0 (conditions_in q set)
 
 -- two sets have the same members
 abbrev pub IsSameSet : Set → Set → Type 0
@@ -70,10 +61,6 @@ module _ (c : Contents) (q : Query) where
   -- from 0
   abbrev pub conditions_at : RelNo → IndexNo → RelSet → List Numbered
   conditions_at r i p = index_conditions c q.classes i r.0 (has p.0)
-
-  -- an index may serve an index scan: a hash index has a condition
-  abbrev pub may_serve : RelNo → IndexNo → RelSet → Bool
-  may_serve r i p = not (is_hash (index_at c i).method) || nat_lt 0 (length (conditions_at r i p))
 
   -- the conditions of the clauses that a bitmap tree uses
   abbrev pub conditions_used : RelNo → RelSet → BitTree → List Cond

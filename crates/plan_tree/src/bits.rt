@@ -2,7 +2,7 @@
 //! Contracts see the tree that it stands for.
 
 ghost use Rattle.std.specs.Prelude.{◌≡◌, IfOk};
-ghost use Rattle.plan_tree.specs.Views.{bits, bits_all};
+ghost use Rattle.plan_tree.specs.work.Views.{bits, bits_all};
 
 use pg_base::{IndexNo, Memory};
 use std::alloc::Global;

@@ -5,19 +5,21 @@ ghost use Rattle.std.specs.Prelude.{◌≡◌, ◌<◌, ◌≤◌, ◌↔◌, Is
 ghost use Rattle.pg_base.specs.Sets.{has};
 ghost use Rattle.pg_base.specs.declared.limits.TheConstants.{MOST_ATOMS};
 ghost use Rattle.pg_base.specs.declared.numbers.IndexNo.{IndexNo};
-ghost use Rattle.pg_expr.specs.AtomSets.{contains};
+ghost use Rattle.pg_expr.specs.work.AtomSets.{contains};
 ghost use Rattle.pg_expr.specs.Columns.{atom_count};
-ghost use Rattle.pg_expr.specs.View as view;
+ghost use Rattle.pg_expr.specs.work.View as view;
 ghost use Rattle.sql_query.specs.catalog_Contents.{Contents, IsIndex, IsTable};
-ghost use Rattle.path_cost.specs.Columns.{AreOver};
+ghost use Rattle.path_cost.specs.work.Columns.{AreOver};
 ghost use Rattle.index_match.specs.Conditions.{index_conditions};
-ghost use Rattle.index_match.specs.Slots.{AreLocal};
+ghost use Rattle.index_match.specs.work.Slots.{AreLocal};
 ghost use Rattle.sql_query.specs.Queries.{width};
 ghost use Rattle.plan_tree.specs.Bitmaps as bitmaps;
-ghost use Rattle.plan_tree.specs.Bitmaps.{IsElement, IsIndexOn, MatchesArm, by_index, table_of_relation, with_element, HasNumber, AreMatchedArms, AreOfFewAtoms, IsNoOr, IsOrOf, IsMatchedAt, AreFirstElements};
-ghost use Rattle.plan_tree.specs.Gathering.{GathersIndexes, GathersClauses};
-ghost use Rattle.plan_tree.specs.Reads.{IsOverTables};
-ghost use Rattle.plan_tree.specs.Views.{element};
+ghost use Rattle.plan_tree.specs.work.Bitmaps as bitmaps_work;
+ghost use Rattle.plan_tree.specs.Bitmaps.{IsElement, IsIndexOn, MatchesArm, by_index, table_of_relation, AreMatchedArms};
+ghost use Rattle.plan_tree.specs.work.Bitmaps.{with_element, HasNumber, AreOfFewAtoms, IsNoOr, IsOrOf, IsMatchedAt, AreFirstElements};
+ghost use Rattle.plan_tree.specs.work.Gathering.{GathersIndexes, GathersClauses};
+ghost use Rattle.plan_tree.specs.work.Reads.{IsOverTables};
+ghost use Rattle.plan_tree.specs.work.Views.{element};
 
 use crate::estimates::{classes_of, range_of};
 use crate::scans::bounds_and_tests;
@@ -63,7 +65,8 @@ impl Drop for Elements {
 impl Model for Elements {
     ghost use Rattle.std.specs.Prelude.{List, map};
     ghost use Rattle.plan_tree.specs.Bitmaps as bitmaps;
-    ghost use Rattle.plan_tree.specs.Views.{element};
+    ghost use Rattle.plan_tree.specs.work.Bitmaps as bitmaps_work;
+    ghost use Rattle.plan_tree.specs.work.Views.{element};
 
     ghost Value = { List bitmaps.Element };
 

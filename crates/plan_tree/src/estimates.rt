@@ -1,13 +1,14 @@
 //! The estimated rows of a plan.
 
 ghost use Rattle.std.specs.Prelude.{◌≡◌, ◌≤◌, length};
-ghost use Rattle.cost_rules.specs.Costs.{IsEstimate};
+ghost use Rattle.cost_rules.specs.work.Costs.{IsEstimate};
 ghost use Rattle.pg_base.specs.Sets.{has};
 ghost use Rattle.path_cost.specs.Estimates.{set_rows};
 ghost use Rattle.sql_query.specs.Queries.{width};
 ghost use Rattle.plan_tree.specs.Costs as costs;
-ghost use Rattle.plan_tree.specs.Reads.{IsOverTables, ReadsBelow};
-ghost use Rattle.plan_tree.specs.Views.{plan};
+ghost use Rattle.plan_tree.specs.work.Costs as costs_work;
+ghost use Rattle.plan_tree.specs.work.Reads.{IsOverTables, ReadsBelow};
+ghost use Rattle.plan_tree.specs.work.Views.{plan};
 
 use crate::plan::Plan;
 use crate::sets::{given_scan, set_of};

@@ -2,14 +2,17 @@
 
 ghost use Rattle.std.specs.Prelude.{◌≡◌, ◌<◌, ◌↔◌, ℕ, IsTrue, length, nat_lt};
 ghost use Rattle.pg_base.specs.Sets.{has};
-ghost use Rattle.pg_expr.specs.AtomSets.{contains};
+ghost use Rattle.pg_expr.specs.work.AtomSets.{contains};
 ghost use Rattle.sql_query.specs.catalog_Contents.{IsIndex, index_at};
 ghost use Rattle.index_match.specs.Conditions as forms;
-ghost use Rattle.index_match.specs.Conditions.{index_conditions, is_condition_of};
+ghost use Rattle.index_match.specs.work.Conditions as forms_work;
+ghost use Rattle.index_match.specs.Conditions.{index_conditions};
+ghost use Rattle.index_match.specs.work.Conditions.{is_condition_of};
 ghost use Rattle.sql_query.specs.Queries.{width};
 ghost use Rattle.plan_tree.specs.Bitmaps.{IsIndexOn};
-ghost use Rattle.plan_tree.specs.Reads.{IsOverTables};
+ghost use Rattle.plan_tree.specs.work.Reads.{IsOverTables};
 ghost use Rattle.plan_tree.specs.Space as space;
+ghost use Rattle.plan_tree.specs.work.Space as space_work;
 ghost use Rattle.plan_tree.specs.Space.{IsIndexScan, IsIndexOnlyScan};
 
 use crate::elements::has_some;
@@ -55,7 +58,7 @@ fn serves(cat: &Catalog, q: &Prepared, r: RelNo, i: IndexNo, p: RelSet, found: &
     requires index { IsIndex cat.now i }
     requires found { (n : ℕ) →
         contains found.now n ≡ is_condition_of cat.now q.now.classes i r p n }
-    ensures { result ≡ space.may_serve cat.now q.now r i p }
+    ensures { result ≡ space_work.may_serve cat.now q.now r i p }
 {
     !is_hash(cat, i) || has_condition(cat, q, r, i, p, found)
 }

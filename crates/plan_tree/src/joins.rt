@@ -1,16 +1,17 @@
 //! What joins cost: the clauses that they test, and the rules over the costs of their sides.
 
 ghost use Rattle.std.specs.Prelude.{◌≡◌, ◌≤◌, ℕ, length};
-ghost use Rattle.pg_expr.specs.AtomSets.{contains};
+ghost use Rattle.pg_expr.specs.work.AtomSets.{contains};
 ghost use Rattle.eq_classes.specs.declared.classes.ClassNo.{ClassNo};
 ghost use Rattle.cost_rules.specs.declared.pair.Pair.{Pair};
-ghost use Rattle.cost_rules.specs.Costs.{IsCost, capped_pair};
+ghost use Rattle.cost_rules.specs.work.Costs.{IsCost, capped_pair};
 ghost use Rattle.sql_query.specs.Queries.{width};
 ghost use Rattle.plan_tree.specs.Costs as costs;
-ghost use Rattle.plan_tree.specs.Reads.{IsOverTables, ReadsBelow};
-ghost use Rattle.plan_tree.specs.Views.{plan};
-ghost use Rattle.path_cost.specs.Cut.{saturated};
-ghost use Rattle.plan_tree.specs.Held.{joins_at, merge_operators_by, nest_over, merge_over};
+ghost use Rattle.plan_tree.specs.work.Costs as costs_work;
+ghost use Rattle.plan_tree.specs.work.Reads.{IsOverTables, ReadsBelow};
+ghost use Rattle.plan_tree.specs.work.Views.{plan};
+ghost use Rattle.path_cost.specs.work.Cut.{saturated};
+ghost use Rattle.plan_tree.specs.work.Held.{joins_at, merge_operators_by, nest_over, merge_over};
 
 use crate::estimates::{classes_of, estimate, range_of};
 use crate::plan::Plan;

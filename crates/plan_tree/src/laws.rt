@@ -4,14 +4,16 @@
 ghost use Rattle.std.specs.Prelude.{◌≡◌, ◌≤◌, ◌↔◌, ℕ, false, IsTrue};
 ghost use Rattle.sql_query.specs.catalog_Contents.{Contents, IsLawful};
 ghost use Rattle.sql_query.specs.Queries.{Query};
-ghost use Rattle.cost_rules.specs.Costs.{IsAtMost};
+ghost use Rattle.cost_rules.specs.work.Costs.{IsAtMost};
 ghost use Rattle.pathkeys.specs.Keys.{Keys};
 ghost use Rattle.plan_tree.specs.Plans.{Plan, sort, nest, merge, set_of, given_scan, is_sort, joins};
-ghost use Rattle.plan_tree.specs.Costs.{HaveRows, cost, estimate, price};
+ghost use Rattle.plan_tree.specs.Costs.{cost, estimate, price};
+ghost use Rattle.plan_tree.specs.work.Costs.{HaveRows};
 ghost use Rattle.plan_tree.specs.Space.{IsLike, IsBuilt, IsFinished};
-ghost use Rattle.plan_tree.specs.Costable.{IsCostable};
-ghost use Rattle.plan_tree.specs.Least.{IsAdmissible, Dominates, StandsFor};
-ghost use Rattle.plan_tree.specs.Paths.{Path, HasItsNumbers, is_at_most};
+ghost use Rattle.plan_tree.specs.work.Costable.{IsCostable};
+ghost use Rattle.plan_tree.specs.Least.{IsAdmissible, Dominates};
+ghost use Rattle.plan_tree.specs.work.Least.{StandsFor};
+ghost use Rattle.plan_tree.specs.work.Paths.{Path, HasItsNumbers, is_at_most};
 
 /// Plans of the same set and parameterisation are taken to give the same rows, and a join with them tests the same
 /// clauses.

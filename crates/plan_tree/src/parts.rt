@@ -3,20 +3,21 @@
 ghost use Rattle.std.specs.Prelude.{◌≡◌, ◌<◌, ◌≤◌, ℕ, true};
 ghost use Rattle.pg_base.specs.Sets.{has};
 ghost use Rattle.pg_base.specs.declared.limits.TheConstants.{MOST_ATOMS};
-ghost use Rattle.pg_expr.specs.AtomSets.{contains};
+ghost use Rattle.pg_expr.specs.work.AtomSets.{contains};
 ghost use Rattle.pg_expr.specs.Columns.{atom_count};
-ghost use Rattle.pg_expr.specs.View.{cond};
+ghost use Rattle.pg_expr.specs.work.View.{cond};
 ghost use Rattle.sql_query.specs.catalog_Contents.{IsIndex, index_at};
 ghost use Rattle.cost_rules.specs.declared.parameters.TheConstants.{MOST_COST};
-ghost use Rattle.cost_rules.specs.Costs.{capped};
+ghost use Rattle.cost_rules.specs.work.Costs.{capped};
 ghost use Rattle.index_match.specs.Arms.{is_matched};
-ghost use Rattle.index_match.specs.Conditions.{is_condition_of};
-ghost use Rattle.index_match.specs.Slots.{AreLocal};
-ghost use Rattle.path_cost.specs.Columns.{IsOver};
+ghost use Rattle.index_match.specs.work.Conditions.{is_condition_of};
+ghost use Rattle.index_match.specs.work.Slots.{AreLocal};
+ghost use Rattle.path_cost.specs.work.Columns.{IsOver};
 ghost use Rattle.sql_query.specs.Queries.{width};
 ghost use Rattle.plan_tree.specs.Costs as costs;
+ghost use Rattle.plan_tree.specs.work.Costs as costs_work;
 ghost use Rattle.plan_tree.specs.Plans.{leaf};
-ghost use Rattle.plan_tree.specs.Reads.{IsOverTables};
+ghost use Rattle.plan_tree.specs.work.Reads.{IsOverTables};
 
 use crate::estimates::{classes_of, range_of};
 use crate::scans::bounds_and_tests;

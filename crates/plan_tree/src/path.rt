@@ -1,7 +1,7 @@
 //! Plans with the numbers by which they are compared (PostgreSQL, src/backend/optimizer/util/pathnode.c, add_path).
 
 ghost use Rattle.std.specs.Prelude.{◌≡◌, IfOk};
-ghost use Rattle.plan_tree.specs.Views.{path};
+ghost use Rattle.plan_tree.specs.work.Views.{path};
 
 use crate::plan::Plan;
 use pareto::Ranked;
@@ -80,9 +80,9 @@ impl Path {
 /// A path is at most another of the same set and parameterisation where neither of its costs is greater and its keys
 /// begin with the other's.
 impl Ranked for Path {
-    ghost use Rattle.plan_tree.specs.Paths.{is_at_most};
-    ghost use Rattle.plan_tree.specs.Views.{path};
-    ghost use Rattle.plan_tree.specs.Ranks.{at-most-refl, at-most-trans};
+    ghost use Rattle.plan_tree.specs.work.Paths.{is_at_most};
+    ghost use Rattle.plan_tree.specs.work.Views.{path};
+    ghost use Rattle.plan_tree.specs.work.Ranks.{at-most-refl, at-most-trans};
 
     ghost is_at_most = { λ a b. is_at_most (path a) (path b) };
 

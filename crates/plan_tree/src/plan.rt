@@ -1,7 +1,7 @@
 //! Plans of a query (PostgreSQL, src/backend/optimizer/README). Contracts see the tree that a plan stands for.
 
 ghost use Rattle.std.specs.Prelude.{◌≡◌, IfOk};
-ghost use Rattle.plan_tree.specs.Views.{plan};
+ghost use Rattle.plan_tree.specs.work.Views.{plan};
 
 use crate::bits::BitTree;
 use pathkeys::Keys;

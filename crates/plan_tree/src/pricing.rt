@@ -2,19 +2,20 @@
 
 ghost use Rattle.std.specs.Prelude.{◌≡◌, ◌<◌, ◌≤◌, ◌-◌, ◌+◌, ◌*◌, ℕ, IfSome, List, MatchOption, length, map, sum};
 ghost use Rattle.std.specs.List.{AllZip};
-ghost use Rattle.pg_expr.specs.AtomSets.{contains};
-ghost use Rattle.pg_expr.specs.View as view;
+ghost use Rattle.pg_expr.specs.work.AtomSets.{contains};
+ghost use Rattle.pg_expr.specs.work.View as view;
 ghost use Rattle.sql_query.specs.catalog_Contents.{Contents, IsIndex};
 ghost use Rattle.cost_rules.specs.declared.parameters.TheConstants.{BITMAP_CHILD, MOST_COST};
-ghost use Rattle.cost_rules.specs.Costs.{IsCost, capped, capped_pair};
-ghost use Rattle.path_cost.specs.Columns.{AreOver};
+ghost use Rattle.cost_rules.specs.work.Costs.{IsCost, capped, capped_pair};
+ghost use Rattle.path_cost.specs.work.Columns.{AreOver};
 ghost use Rattle.sql_query.specs.Queries.{width};
-ghost use Rattle.plan_tree.specs.Bitmaps.{HasNoArms, IsOrOf, AreOfFewAtoms};
-ghost use Rattle.plan_tree.specs.Costable.{IsCostable, IsMatchedBy, IsCostableTree, AreCostableTrees};
+ghost use Rattle.plan_tree.specs.work.Bitmaps.{HasNoArms, IsOrOf, AreOfFewAtoms};
+ghost use Rattle.plan_tree.specs.work.Costable.{IsCostable, IsMatchedBy, IsCostableTree, AreCostableTrees};
 ghost use Rattle.plan_tree.specs.Costs as costs;
-ghost use Rattle.plan_tree.specs.Reads.{IsOverTables};
-ghost use Rattle.plan_tree.specs.Views.{bits, bits_all, plan};
-ghost use Rattle.plan_tree.specs.Held.{used_with_index, used_with_tree, used_with_all, tree_cost};
+ghost use Rattle.plan_tree.specs.work.Costs as costs_work;
+ghost use Rattle.plan_tree.specs.work.Reads.{IsOverTables};
+ghost use Rattle.plan_tree.specs.work.Views.{bits, bits_all, plan};
+ghost use Rattle.plan_tree.specs.work.Held.{used_with_index, used_with_tree, used_with_all, tree_cost};
 
 use crate::bits::BitTree;
 use crate::elements::or_arms;
@@ -75,7 +76,7 @@ fn arms_part(
     requires over { AreOver cat.now q.now.range arms.now }
     requires few { AreOfFewAtoms arms.now }
     requires matched { AllZip (IsMatchedBy cat.now r.0) (map view.cond arms.now) indexes.now }
-    ensures part { result ≡ capped (costs.arms_together cat.now q.now r p arms.now indexes.now) }
+    ensures part { result ≡ capped (costs_work.arms_together cat.now q.now r p arms.now indexes.now) }
     ensures most { result ≤ MOST_COST }
 {
     let mut sum = 0;
@@ -110,7 +111,7 @@ fn trees_part(cat: &Catalog, q: &Prepared, r: RelNo, p: RelSet, trees: &[BitTree
     requires query { IsOverTables cat.now q.now }
     requires relation { r.0 < width q.now }
     requires trees { AreCostableTrees cat.now q.now r.0 (bits_all trees.now) }
-    ensures part { result ≡ capped (costs.trees_together cat.now q.now r p (bits_all trees.now)) }
+    ensures part { result ≡ capped (costs_work.trees_together cat.now q.now r p (bits_all trees.now)) }
     ensures most { result ≤ MOST_COST }
 {
     let mut sum = 0;

@@ -1,14 +1,15 @@
 //! What scans of one relation cost.
 
 ghost use Rattle.std.specs.Prelude.{◌≡◌, ◌<◌, ℕ};
-ghost use Rattle.pg_expr.specs.AtomSets.{contains};
+ghost use Rattle.pg_expr.specs.work.AtomSets.{contains};
 ghost use Rattle.sql_query.specs.catalog_Contents.{IsIndex};
-ghost use Rattle.cost_rules.specs.Costs.{IsCost, capped_pair};
+ghost use Rattle.cost_rules.specs.work.Costs.{IsCost, capped_pair};
 ghost use Rattle.path_cost.specs.Costs as paths;
 ghost use Rattle.sql_query.specs.Queries.{width};
 ghost use Rattle.plan_tree.specs.Costs as costs;
-ghost use Rattle.plan_tree.specs.Reads.{IsOverTables};
-ghost use Rattle.plan_tree.specs.Held.{is_of_match};
+ghost use Rattle.plan_tree.specs.work.Costs as costs_work;
+ghost use Rattle.plan_tree.specs.work.Reads.{IsOverTables};
+ghost use Rattle.plan_tree.specs.work.Held.{is_of_match};
 
 use crate::estimates::{classes_of, range_of};
 use cost_rules::Pair;

@@ -2,12 +2,14 @@
 
 ghost use Rattle.std.specs.Prelude.{◌≡◌, ◌≤◌};
 ghost use Rattle.sql_query.specs.catalog_Contents.{Contents};
-ghost use Rattle.cost_rules.specs.Costs.{IsCost, IsEstimate, capped_pair};
+ghost use Rattle.cost_rules.specs.work.Costs.{IsCost, IsEstimate, capped_pair};
 ghost use Rattle.plan_tree.specs.Costs as costs;
+ghost use Rattle.plan_tree.specs.work.Costs as costs_work;
 ghost use Rattle.plan_tree.specs.Least.{IsAdmissible};
-ghost use Rattle.plan_tree.specs.Paths.{HasItsNumbers, kept_cost, startup_kept, cost_kept};
+ghost use Rattle.plan_tree.specs.Paths.{startup_kept};
+ghost use Rattle.plan_tree.specs.work.Paths.{HasItsNumbers, kept_cost, cost_kept};
 ghost use Rattle.plan_tree.specs.Plans as plans;
-ghost use Rattle.plan_tree.specs.Views.{path};
+ghost use Rattle.plan_tree.specs.work.Views.{path};
 
 use crate::path::Path;
 use cost_rules::{Pair, price};

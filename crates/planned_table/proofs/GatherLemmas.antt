@@ -10,13 +10,13 @@ use Rattle.pg_base.specs.Sets.{has}
 use Rattle.pg_base.specs.declared.rel_set.RelSet.{RelSet}
 use Rattle.pg_base.proofs.SetLaws.{same_set}
 use Rattle.eq_classes.specs.Clauses.{one}
-use Rattle.pareto.specs.Front.{Unrelated}
-use Rattle.plan_tree.specs.Paths.{Path, is_at_most}
+use Rattle.pareto.specs.work.Front.{Unrelated}
+use Rattle.plan_tree.specs.work.Paths.{Path, is_at_most}
 use Rattle.plan_tree.specs.Space.{IsSameSet}
 use Rattle.plan_tree.specs.declared.path.Path.{Path as Costed}
-use Rattle.join_search.specs.Tables.{Fronts, IsSamePlace}
+use Rattle.join_search.specs.work.Tables.{Fronts, IsSamePlace}
 use Rattle.join_search.proofs.TableLemmas.{same-number as same_number}
-use Rattle.planned_table.specs.Gathering.{AreGathered, AreUnrelated, IsBelow, IsBelowOr, IsWholeBelow, Places, StandAtTheirs}
+use Rattle.planned_table.specs.work.Gathering.{AreGathered, AreUnrelated, IsBelow, IsBelowOr, IsWholeBelow, Places, StandAtTheirs}
 
 pairs-append : (R : Path → Path → Type 0) (xs ys : List Path) → AllPairs R xs → AllPairs R ys → All (λ x. All (R x) ys) xs → AllPairs R (xs ++ ys)
 pairs-append R [] ys h g cross = g

@@ -9,22 +9,22 @@ use Rattle.pathkeys.specs.Keys.{Keys, covers, order_keys}
 use Rattle.catalog.specs.Contents.{Contents}
 use Rattle.sql_query.specs.Queries.{Query, width}
 use Rattle.plan_tree.specs.Keys.{keys_of}
-use Rattle.plan_tree.specs.Paths.{Path}
+use Rattle.plan_tree.specs.work.Paths.{Path}
 use Rattle.plan_tree.specs.Plans.{Plan, merge, sort}
-use Rattle.plan_tree.specs.Reads.{ReadsBelow}
-use Rattle.plan_tree.specs.Views.{path, plan}
+use Rattle.plan_tree.specs.work.Reads.{ReadsBelow}
+use Rattle.plan_tree.specs.work.Views.{path, plan}
 use Rattle.plan_tree.specs.declared.path.Path.{Path as Costed}
 use Rattle.plan_tree.proofs.FrontLemmas.{contains-mapped}
 use Rattle.std.proofs.lemmas.List.Elements.{All-contains}
 use Rattle.certificate_laws.specs.planner_Finishing.{finished}
 use Rattle.plan_check.specs.Certificates.{Certificate, Entry, Side, finish_at, join_by, plan_at, plans_of, side_at, sorted_if}
-use Rattle.plan_check.specs.Views.{entry}
+use Rattle.plan_check.specs.work.Views.{entry}
 use Rattle.plan_check.specs.declared.entry.Entry.{Entry as Entered}
-use Rattle.certificate_laws.specs.Kept.{AreEntriesOf, AreOf, IsEntryOf}
+use Rattle.certificate_laws.specs.work.Kept.{AreEntriesOf, AreOf, IsEntryOf}
 use Rattle.certificate_laws.proofs.KeptLemmas.{unfolded-are}
-use Rattle.certificate_laws.specs.Made.{AreMadeInTurn, IsMadeAmong, IsSideAmong, tree_of}
-use Rattle.planned_table.specs.Gathering.{shown}
-use Rattle.planned_table.specs.Numbering.{present, trees}
+use Rattle.certificate_laws.specs.work.Made.{AreMadeInTurn, IsMadeAmong, IsSideAmong, tree_of}
+use Rattle.planned_table.specs.work.Gathering.{shown}
+use Rattle.planned_table.specs.work.Numbering.{present, trees}
 
 abbrev pub one : Bor Costed → Path
 one x = path x.now

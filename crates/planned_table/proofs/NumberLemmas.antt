@@ -6,11 +6,11 @@ use Rattle.std.proofs.lemmas.Bool.{cases_lt}
 use Rattle.std.proofs.lemmas.Option.{slice_get-get_or, slice_get-map}
 use Rattle.pathkeys.specs.Keys.{Keys}
 use Rattle.plan_tree.specs.Plans.{Plan, seq, index, index_only, bitmap, sort, nest, merge}
-use Rattle.plan_tree.specs.Views.{plan}
+use Rattle.plan_tree.specs.work.Views.{plan}
 use Rattle.plan_tree.specs.declared.path.Path.{Path as Costed}
 use Rattle.plan_check.specs.Certificates.{plan_at, side_at, sorted_if}
-use Rattle.certificate_laws.specs.Made.{IsSideAmong}
-use Rattle.planned_table.specs.Numbering.{present, trees, without_sort}
+use Rattle.certificate_laws.specs.work.Made.{IsSideAmong}
+use Rattle.planned_table.specs.work.Numbering.{present, trees, without_sort}
 
 take-get : (ts : List Plan) (first n : ℕ) (t : Plan) → n < first → slice_get ts n ≡ Some t → slice_get (present (take first ts)) n ≡ Some (Some t)
 take-get ts zero n t lt e = absurd (omega (arith, lt))

@@ -9,11 +9,12 @@ use Rattle.std.proofs.lemmas.List.{get_or-map, get_or_default, length-map}
 use Rattle.opfamily.proofs.KeyOrderLemmas.{then_other}
 use Rattle.eq_classes.specs.declared.classes.ClassNo.{ClassNo}
 use Rattle.heap.specs.Tuples.{relation_count}
-use Rattle.pathkeys.specs.Finding.{class_numbers}
+use Rattle.pathkeys.specs.work.Finding.{class_numbers}
 use Rattle.pg_value.specs.Sorting.{IsInOrder}
-use Rattle.plan_tree.specs.Paths.{Path}
+use Rattle.plan_tree.specs.work.Paths.{Path}
 use Rattle.plan_check.specs.Certificates.{Entry}
-use Rattle.certificate_laws.specs.Printing.{path_order, printing_order, said}
+use Rattle.certificate_laws.specs.Printing.{printing_order}
+use Rattle.certificate_laws.specs.work.Printing.{path_order, said}
 
 all-tie : IsTotalOrder {K = Entry} (λ x y. Equal)
 all-tie = record { antisymm = λ x y. refl; trans = λ x y z p q. p; congr = λ x y z p. refl }

@@ -16,35 +16,36 @@ use Rattle.eq_classes.specs.Clauses.{one}
 use Rattle.sql_query.specs.Queries.{Query, all_of_query, width}
 use Rattle.sql_query.specs.WellBound.{IsWellBound}
 use Rattle.sql_query.specs.declared.window.Window.{Window}
-use Rattle.plan_tree.specs.Paths.{Path, is_at_most, startup_kept}
+use Rattle.plan_tree.specs.Paths.{startup_kept}
+use Rattle.plan_tree.specs.work.Paths.{Path, is_at_most}
 use Rattle.plan_tree.specs.Plans.{Plan, seq, index, index_only, bitmap, sort, nest, merge, set_of}
-use Rattle.plan_tree.specs.Reads.{IsOverTables, ReadsBelow}
+use Rattle.plan_tree.specs.work.Reads.{IsOverTables, ReadsBelow}
 use Rattle.plan_tree.specs.Space.{IsBuilt, IsPlanOf, IsSameSet}
 use Rattle.plan_tree.specs.Least.{IsBestPlan}
-use Rattle.plan_tree.specs.Views.{plan}
+use Rattle.plan_tree.specs.work.Views.{plan}
 use Rattle.plan_tree.specs.declared.path.Path.{Path as Costed}
 use Rattle.plan_tree.proofs.BoundLemmas.{lawful-rows}
 use Rattle.plan_tree.proofs.EstimateLemmas.{below-more}
 use Rattle.plan_tree.proofs.FrontLemmas.{contains-mapped}
 use Rattle.plan_tree.proofs.PathLemmas.{built-below}
 use Rattle.plan_laws.proofs.WithinLemmas.{built-within}
-use Rattle.join_search.specs.Joins.{IsPathAt}
-use Rattle.join_search.specs.Tables.{Fronts}
+use Rattle.join_search.specs.work.Joins.{IsPathAt}
+use Rattle.join_search.specs.work.Tables.{Fronts}
 use Rattle.certificate_laws.specs.planner_BaseLemmas.{scan-most}
 use Rattle.plan_tree.proofs.SetLemmas.{within-most}
 use Rattle.plan_check.specs.Certificates.{Certificate, Entry, finish_at}
 use Rattle.plan_check.specs.Limit.{MOST_ENTRIES}
 use Rattle.plan_check.specs.Tables.{IsPlanTable}
-use Rattle.certificate_laws.specs.Kept.{AreEntriesOf, AreOf}
+use Rattle.certificate_laws.specs.work.Kept.{AreEntriesOf, AreOf}
 use Rattle.certificate_laws.proofs.KeptLemmas.{made-table}
 use Rattle.certificate_laws.specs.certificate_text_HasText.{HasText}
-use Rattle.certificate_laws.specs.Made.{tree_of}
-use Rattle.certificate_laws.specs.Searched.{AreOfFronts, IsSearched}
+use Rattle.certificate_laws.specs.work.Made.{tree_of}
+use Rattle.certificate_laws.specs.work.Searched.{AreOfFronts, IsSearched}
 use Rattle.certificate_laws.proofs.FrontsLemmas.{at-place, is-path, paths-kept}
-use Rattle.certificate_laws.specs.Arms.{HasArmsInOrs}
+use Rattle.certificate_laws.specs.work.Arms.{HasArmsInOrs}
 use Rattle.certificate_laws.proofs.EntryLemmas.{has-text}
-use Rattle.planned_table.specs.Gathering.{AreGathered, AreUnrelated, IsBelow, StandAtTheirs, shown}
-use Rattle.planned_table.specs.Numbering.{trees}
+use Rattle.planned_table.specs.work.Gathering.{AreGathered, AreUnrelated, IsBelow, StandAtTheirs, shown}
+use Rattle.planned_table.specs.work.Numbering.{trees}
 use Rattle.planned_table.proofs.MakeLemmas.{one as seen, trees-are}
 
 module _ (c : Contents) (q : Query) (over : IsOverTables c q) (all : RelSet) (is_all : IsSameSet (has all.0) (all_of_query q)) (fronts : Fronts) (searched : IsSearched c q fronts) where

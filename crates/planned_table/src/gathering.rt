@@ -4,9 +4,9 @@ ghost use Rattle.std.specs.Prelude.{◌≡◌, ◌≤◌, ◌+◌, ◌++◌, IfO
 ghost use Rattle.pg_base.specs.Sets.{has};
 ghost use Rattle.eq_classes.specs.Clauses.{one};
 ghost use Rattle.plan_tree.specs.Space.{IsSameSet};
-ghost use Rattle.plan_tree.specs.Views.{path};
-ghost use Rattle.join_search.specs.Tables.{paths_at};
-ghost use Rattle.planned_table.specs.Gathering.{AreGathered, AreUnrelated, IsBelow, IsWholeBelow, StandAtTheirs, shown};
+ghost use Rattle.plan_tree.specs.work.Views.{path};
+ghost use Rattle.join_search.specs.work.Tables.{paths_at};
+ghost use Rattle.planned_table.specs.work.Gathering.{AreGathered, AreUnrelated, IsBelow, IsWholeBelow, StandAtTheirs, shown};
 
 use join_search::Table;
 use pg_base::{Memory, RelNo, RelSet};

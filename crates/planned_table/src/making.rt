@@ -3,17 +3,19 @@
 ghost use Rattle.std.specs.Prelude.{◌≡◌, ◌≤◌, ℕ, [], All, Contains, IfOk, Some, length, map, not, take};
 ghost use Rattle.pg_base.specs.declared.rel_set.RelSet.{RelSet};
 ghost use Rattle.pathkeys.specs.Keys as keys;
+ghost use Rattle.pathkeys.specs.work.Keys as keys_work;
 ghost use Rattle.sql_query.specs.Queries.{width};
-ghost use Rattle.plan_tree.specs.Reads.{ReadsBelow};
-ghost use Rattle.plan_tree.specs.Views.{path, plan};
+ghost use Rattle.plan_tree.specs.work.Reads.{ReadsBelow};
+ghost use Rattle.plan_tree.specs.work.Views.{path, plan};
 ghost use Rattle.plan_tree.specs.Plans as plans;
 ghost use Rattle.plan_check.specs.Certificates.{plan_at, plan_by};
 ghost use Rattle.plan_check.specs.Limit.{MOST_ENTRIES};
 ghost use Rattle.plan_check.specs.Views as views;
-ghost use Rattle.certificate_laws.specs.Kept.{AreEntriesOf, AreOf, IsEntryOf};
-ghost use Rattle.certificate_laws.specs.Made.{AreMadeInTurn, IsSideAmong};
-ghost use Rattle.planned_table.specs.Gathering.{shown};
-ghost use Rattle.planned_table.specs.Numbering.{IsMadeBefore, present, present_before, trees};
+ghost use Rattle.plan_check.specs.work.Views as views_work;
+ghost use Rattle.certificate_laws.specs.work.Kept.{AreEntriesOf, AreOf, IsEntryOf};
+ghost use Rattle.certificate_laws.specs.work.Made.{AreMadeInTurn, IsSideAmong};
+ghost use Rattle.planned_table.specs.work.Gathering.{shown};
+ghost use Rattle.planned_table.specs.work.Numbering.{IsMadeBefore, present, present_before, trees};
 
 use crate::numbering::{number_of, side_of};
 use pathkeys::{Keys, covers};
@@ -38,7 +40,7 @@ fn merge_of(
     requires outer { IsSideAmong (take first (trees listed.now)) keys.now (plan outer.now) }
     requires inner { IsSideAmong (take first (trees listed.now)) keys.now (plan inner.now) }
     ensures { (w : ℕ) (set param : RelSet) → IfOk result (λ n.
-        plan_by w (present_before first listed.now) set param (views.node n)
+        plan_by w (present_before first listed.now) set param (views_work.node n)
         ≡ Some (plans.merge keys.now (plan outer.now) (plan inner.now))) }
 {
     let outer = side_of(listed, first, outer);
@@ -62,7 +64,7 @@ fn node_of(
     requires made { IsMadeBefore q.now first listed.now (path p.now) }
     ensures { IfOk result (λ n.
         plan_by (width q.now) (present_before first listed.now)
-        p.now.set p.now.param (views.node n) ≡ Some (path p.now).tree) }
+        p.now.set p.now.param (views_work.node n) ≡ Some (path p.now).tree) }
 {
     match &p.plan {
         Plan::Seq { .. } => Ok(Node::Seq),
@@ -103,7 +105,7 @@ fn entry_of(
     requires below { ReadsBelow 16 (path p.now).tree }
     requires made { IsMadeBefore q.now first listed.now (path p.now) }
     ensures { IfOk result (λ e.
-        IsEntryOf (width q.now) (present_before first listed.now) (views.entry e) (path p.now)) }
+        IsEntryOf (width q.now) (present_before first listed.now) (views_work.entry e) (path p.now)) }
 {
     let node = node_of(alloc, q, listed, first, p)?;
     let keys = p.keys.copy(alloc)?;
@@ -124,7 +126,7 @@ fn entries_of(alloc: Global, q: &Prepared, listed: &[&Path]) -> Result<Vec<Entry
     requires below { All (ReadsBelow 16) (trees listed.now) }
     requires made { AreMadeInTurn (width q.now) (shown listed.now) }
     ensures { IfOk result (λ es.
-        AreEntriesOf (width q.now) [] (map views.entry es.items) (shown listed.now)) }
+        AreEntriesOf (width q.now) [] (map views_work.entry es.items) (shown listed.now)) }
 {
     let mut entries = Vec::new(alloc);
     for n in 0..listed.len() {
@@ -160,7 +162,7 @@ pub(crate) fn certificate_of(
     requires below { All (ReadsBelow 16) (trees listed.now) }
     requires made { AreMadeInTurn (width q.now) (shown listed.now) }
     requires there { Contains (trees listed.now) (path best.now).tree }
-    ensures entries { IfOk result (λ t. AreOf q.now (views.certificate t) (shown listed.now)) }
+    ensures entries { IfOk result (λ t. AreOf q.now (views_work.certificate t) (shown listed.now)) }
     ensures sorted { IfOk result (λ t.
         t.best.sort ≡ not (keys.covers (path best.now).keys order.now)) }
     ensures best { IfOk result (λ t.

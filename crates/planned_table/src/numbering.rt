@@ -2,13 +2,14 @@
 
 ghost use Rattle.std.specs.Prelude.{◌≡◌, ◌≢◌, ◌<◌, ◌≤◌, ℕ, All, Contains, IfNone, IfSome, Some, length, map, slice_get, take};
 ghost use Rattle.pathkeys.specs.Keys as keys;
-ghost use Rattle.plan_tree.specs.Reads.{ReadsBelow};
-ghost use Rattle.plan_tree.specs.Views.{plan};
+ghost use Rattle.pathkeys.specs.work.Keys as keys_work;
+ghost use Rattle.plan_tree.specs.work.Reads.{ReadsBelow};
+ghost use Rattle.plan_tree.specs.work.Views.{plan};
 ghost use Rattle.plan_check.specs.Certificates.{plan_at, side_at};
 ghost use Rattle.plan_check.specs.Limit.{MOST_ENTRIES};
 ghost use Rattle.plan_check.specs.Views.{side};
-ghost use Rattle.certificate_laws.specs.Made.{IsSideAmong};
-ghost use Rattle.planned_table.specs.Numbering.{present, present_before, trees, trees_before, without_sort};
+ghost use Rattle.certificate_laws.specs.work.Made.{IsSideAmong};
+ghost use Rattle.planned_table.specs.work.Numbering.{present, present_before, trees, trees_before, without_sort};
 
 use crate::printing::size;
 use pg_base::RelSet;

@@ -5,11 +5,11 @@ ghost use Rattle.std.specs.Cmp.Lexicographic.{slice_cmp};
 ghost use Rattle.std.specs.List.Sorted.{IsPermutation};
 ghost use Rattle.std.specs.Ordering.{nat_cmp};
 ghost use Rattle.heap.specs.Tuples.{relation_count};
-ghost use Rattle.pathkeys.specs.Finding.{class_numbers};
+ghost use Rattle.pathkeys.specs.work.Finding.{class_numbers};
 ghost use Rattle.pg_value.specs.Sorting.{IsInOrder};
-ghost use Rattle.plan_tree.specs.Views.{path};
-ghost use Rattle.certificate_laws.specs.Printing.{path_order};
-ghost use Rattle.planned_table.specs.Gathering.{shown};
+ghost use Rattle.plan_tree.specs.work.Views.{path};
+ghost use Rattle.certificate_laws.specs.work.Printing.{path_order};
+ghost use Rattle.planned_table.specs.work.Gathering.{shown};
 
 use eq_classes::ClassNo;
 use pg_base::{Memory, RelNo, RelSet};

@@ -7,7 +7,7 @@ use Rattle.std.proofs.lemmas.Nat.{and_le_r}
 use Rattle.std.specs.List.{list_any}
 use Rattle.pg_base.proofs.SetLaws.{has-and, same_set}
 use Rattle.pg_expr.specs.Columns.{names_rel}
-use Rattle.plan_tree.specs.Reads.{IsOverTables}
+use Rattle.plan_tree.specs.work.Reads.{IsOverTables}
 use Rattle.std.proofs.lemmas.List.Elements.{All-contains, All-weaker}
 use Rattle.pg_base.specs.Sets.{has}
 use Rattle.pg_base.specs.declared.numbers.IndexNo.{IndexNo}
@@ -26,11 +26,11 @@ use Rattle.plan_tree.specs.Bitmaps.{uses}
 use Rattle.plan_tree.specs.Plans.{Plan, seq, index, index_only, bitmap, sort, nest, merge, BitTree}
 use Rattle.plan_tree.specs.Space.{IsBitmapScan, IsIndexScan, IsPlanOf, IsSameSet, others_named}
 use Rattle.plan_tree.specs.Least.{IsAdmissible}
-use Rattle.plan_tree.specs.Paths.{Path}
-use Rattle.plan_tree.specs.Fronts.{AreDominated, AreOldOrOffers, HasDominating, IsOffer, StayDominated, is_bitmap, is_no_bitmap}
+use Rattle.plan_tree.specs.work.Paths.{Path}
+use Rattle.plan_tree.specs.work.Fronts.{AreDominated, AreOldOrOffers, HasDominating, IsOffer, StayDominated, is_bitmap, is_no_bitmap}
 use Rattle.plan_tree.proofs.ConditionLemmas.{conditions-listed}
 use Rattle.scan_paths.proofs.SpaceLemmas.{no-join, same-param, same-relation}
-use Rattle.planner.specs.Bases.{AreAllOf, is_plan}
+use Rattle.planner.specs.work.Bases.{AreAllOf, is_plan}
 use Rattle.planner.proofs.GivenLemmas.{named-given, used-local}
 use Rattle.plan_tree.proofs.GivenLemmas.{clauses-below as below}
 use Rattle.pg_base.proofs.BoolLemmas.{and-within}

@@ -2,14 +2,16 @@
 use Rattle.std.proofs.Common.{◌≡◌, ◌<◌, ◌≤◌, Bool, true, false, ◌||◌, ◌∷◌, refl, sym, ◌∙◌, ap, subst, arith}
 use Rattle.std.specs.Prelude.{None}
 use Rattle.catalog.specs.Contents.{Contents}
-use Rattle.cost_rules.specs.Costs.{IsEstimate, capped_pair, sort_cost}
+use Rattle.cost_rules.specs.Costs.{sort_cost}
+use Rattle.cost_rules.specs.work.Costs.{IsEstimate, capped_pair}
 use Rattle.cost_rules.specs.declared.pair.Pair.{Pair}
 use Rattle.cost_rules.specs.declared.parameters.TheConstants.{MOST_COST}
 use Rattle.path_cost.specs.Estimates.{set_rows}
 use Rattle.pathkeys.specs.Keys.{Keys}
 use Rattle.sql_query.specs.Queries.{Query, all_of_query}
-use Rattle.plan_tree.specs.Costs.{HaveRows, cost, query_rows, rows_given}
-use Rattle.plan_tree.specs.Paths.{Path, HasItsNumbers, kept_cost}
+use Rattle.plan_tree.specs.Costs.{cost, query_rows, rows_given}
+use Rattle.plan_tree.specs.work.Costs.{HaveRows}
+use Rattle.plan_tree.specs.work.Paths.{Path, HasItsNumbers, kept_cost}
 use Rattle.plan_tree.specs.Least.{IsAdmissible}
 use Rattle.plan_tree.specs.Plans.{Plan, given_scan, nest, param_of, set_of, sort}
 use Rattle.plan_tree.specs.Space.{IsEmpty}
@@ -17,7 +19,7 @@ use Rattle.plan_tree.proofs.BoundLemmas.{startup-most}
 use Rattle.plan_tree.proofs.LikeLemmas.{given-like}
 use Rattle.plan_tree.proofs.RowsLemmas.{plan-estimate}
 use Rattle.plan_tree.proofs.WindowLemmas.{sort-kept, uncut-kept}
-use Rattle.planner.specs.Finishing.{IsWhole, finished}
+use Rattle.planner.specs.work.Finishing.{IsWhole, finished}
 
 module _ (c : Contents) (q : Query) where
   or-self : (b : Bool) → b ≡ b || b

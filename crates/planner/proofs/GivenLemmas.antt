@@ -19,7 +19,7 @@ use Rattle.eq_classes.proofs.ListLemmas.{some_same}
 use Rattle.index_match.specs.Numbered.{Numbered, has_number, local}
 use Rattle.index_match.proofs.FoundLemmas.{chosen_numbers, those_are}
 use Rattle.index_match.proofs.PartLemmas.{conditions_local}
-use Rattle.path_cost.specs.Columns.{IsOver, is_column_in}
+use Rattle.path_cost.specs.work.Columns.{IsOver, is_column_in}
 use Rattle.path_cost.specs.Estimates.{conditions_from, conditions_where}
 use Rattle.path_cost.proofs.KeptLemmas.{where-from}
 use Rattle.sql_query.specs.Queries.{Query, width}

@@ -14,9 +14,9 @@ use Rattle.eq_classes.specs.Parts.{is_inside, is_lowest, is_param, is_param_from
 use Rattle.eq_classes.proofs.ClassLemmas.{first_inside, first_of_own, lowest_at, lowest_is}
 use Rattle.path_cost.specs.Estimates.{conditions_from, conditions_where}
 use Rattle.sql_query.specs.Queries.{Query, width}
-use Rattle.plan_tree.specs.Reads.{IsOverTables}
+use Rattle.plan_tree.specs.work.Reads.{IsOverTables}
 use Rattle.plan_tree.specs.Space.{others_named}
-use Rattle.planner.specs.Near.{AreConjuncts, HavePairs, IsNear}
+use Rattle.planner.specs.work.Near.{AreConjuncts, HavePairs, IsNear}
 use Rattle.planner.proofs.BaseLemmas.{scan-below, scan-named}
 use Rattle.planner.proofs.GivenLemmas.{named-where}
 

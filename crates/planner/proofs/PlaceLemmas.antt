@@ -6,12 +6,12 @@ use Rattle.std.proofs.lemmas.List.Elements.{All-contains, All-map, All-more, All
 use Rattle.catalog.specs.Contents.{Contents}
 use Rattle.sql_query.specs.Queries.{Query}
 use Rattle.plan_tree.specs.Least.{IsAdmissible}
-use Rattle.plan_tree.specs.Paths.{Path}
-use Rattle.plan_tree.specs.Views.{path}
+use Rattle.plan_tree.specs.work.Paths.{Path}
+use Rattle.plan_tree.specs.work.Views.{path}
 use Rattle.plan_tree.specs.declared.path.Path.{Path as Costed}
 use Rattle.plan_tree.proofs.FrontLemmas.{contains-mapped}
-use Rattle.planner.specs.Finishing.{IsLeastOf, IsPriced, finished, finished_price}
-use Rattle.planner.specs.Priced.{IsUnder}
+use Rattle.planner.specs.work.Finishing.{IsLeastOf, IsPriced, finished, finished_price}
+use Rattle.planner.specs.work.Priced.{IsUnder}
 use Rattle.planner.specs.declared.finishing.Least.{Least}
 
 pub at-place : (P : Path → Type 0) (xs : List Costed) (k : ℕ) (x : Costed) → k < length xs → x ≡ get_or xs k x → All P (map path xs) → P (path x)

@@ -9,11 +9,12 @@ use Rattle.sql_query.specs.Queries.{Query, all_of_query}
 use Rattle.pathkeys.specs.Keys.{Keys, covers, order_keys}
 use Rattle.plan_tree.specs.Plans.{Plan, seq, index, index_only, bitmap, sort, nest, merge, empty, is_sort, set_of}
 use Rattle.plan_tree.specs.Keys.{keys_of}
-use Rattle.plan_tree.specs.Costs.{cost, price, HaveRows}
+use Rattle.plan_tree.specs.Costs.{cost, price}
+use Rattle.plan_tree.specs.work.Costs.{HaveRows}
 use Rattle.path_cost.specs.Estimates.{set_rows}
 use Rattle.plan_tree.specs.Space.{IsFinished, IsPlanOf, MeetsOrder}
 use Rattle.plan_tree.specs.Least.{IsAdmissible, IsBestPlan, IsStartupAtMost}
-use Rattle.plan_tree.specs.Paths.{Path}
+use Rattle.plan_tree.specs.work.Paths.{Path}
 use Rattle.plan_tree.proofs.BoundLemmas.{sort-most, startup-most}
 use Rattle.plan_tree.proofs.WindowLemmas.{startup-from}
 use Rattle.cost_rules.specs.declared.parameters.TheConstants.{MOST_COST}
@@ -21,7 +22,7 @@ use Rattle.join_search.specs.plan_laws_Useful.{IsBelow}
 use Rattle.join_search.specs.plan_laws_LeastLemmas.{finished-plain}
 use Rattle.join_search.specs.plan_laws_UsefulLemmas.{child-below, price-most, price-total, sort-stands}
 use Rattle.join_search.specs.declared.useful.Asked.{Asked}
-use Rattle.planner.specs.Finishing.{AreCandidates, IsLeastOf, IsWhole, finished, finished_price}
+use Rattle.planner.specs.work.Finishing.{AreCandidates, IsLeastOf, IsWhole, finished, finished_price}
 use Rattle.plan_tree.proofs.DominationLemmas.{startup-trans}
 use Rattle.plan_tree.proofs.DominationLemmas.{startup-refl}
 

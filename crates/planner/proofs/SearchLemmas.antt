@@ -9,21 +9,21 @@ use Rattle.pg_base.proofs.SetLaws.{has-one_wide, has-or, has-zero, same_set}
 use Rattle.catalog.specs.Contents.{Contents}
 use Rattle.eq_classes.specs.Clauses.{one}
 use Rattle.sql_query.specs.Queries.{Query, all_of_query, width}
-use Rattle.plan_tree.specs.Costs.{HaveRows}
+use Rattle.plan_tree.specs.work.Costs.{HaveRows}
 use Rattle.plan_tree.specs.Plans.{Plan, seq, index, index_only, bitmap, sort, nest, merge, empty, set_of}
 use Rattle.plan_tree.specs.Space.{IsBuilt, IsPlanOf, IsSameSet}
-use Rattle.plan_tree.specs.Paths.{Path}
+use Rattle.plan_tree.specs.work.Paths.{Path}
 use Rattle.scan_paths.proofs.SpaceLemmas.{given-param}
 use Rattle.join_search.specs.plan_laws_Closed.{AreKeptSides, IsKeptSide, is_scan}
 use Rattle.join_search.specs.plan_laws_Useful.{HasEnough, IsBelow, IsClosedBelow, Suffices}
 use Rattle.join_search.specs.plan_laws_UsefulLemmas.{enough}
-use Rattle.join_search.specs.Joins.{ArePlaced, AreJoinsCovered, IsKept, IsPathAt, IsSideKept}
-use Rattle.join_search.specs.Sufficing.{HasSufficient}
-use Rattle.join_search.specs.Tables.{Fronts, none}
+use Rattle.join_search.specs.work.Joins.{ArePlaced, AreJoinsCovered, IsKept, IsPathAt, IsSideKept}
+use Rattle.join_search.specs.work.Sufficing.{HasSufficient}
+use Rattle.join_search.specs.work.Tables.{Fronts, none}
 use Rattle.join_search.specs.declared.useful.Asked.{Asked}
 use Rattle.join_search.proofs.OfferLemmas.{dominating-serves}
-use Rattle.planner.specs.Bases.{HaveScansOf}
-use Rattle.planner.specs.Finishing.{AreCandidates, IsWhole}
+use Rattle.planner.specs.work.Bases.{HaveScansOf}
+use Rattle.planner.specs.work.Finishing.{AreCandidates, IsWhole}
 use Rattle.join_search.proofs.TableLemmas.{same-number as same_number}
 
 module _ (c : Contents) (q : Query) (fronts : Fronts) (placed : ArePlaced c q fronts) where

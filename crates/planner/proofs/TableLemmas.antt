@@ -11,15 +11,15 @@ use Rattle.catalog.specs.Contents.{Contents}
 use Rattle.eq_classes.specs.Clauses.{one}
 use Rattle.sql_query.specs.Queries.{Query, all_of_query}
 use Rattle.plan_tree.specs.Space.{IsSameSet}
-use Rattle.plan_tree.specs.Paths.{Path}
-use Rattle.plan_tree.specs.Fronts.{AreDominated, IsOffer}
-use Rattle.plan_tree.specs.Reads.{IsOverTables}
-use Rattle.plan_tree.specs.Views.{path}
+use Rattle.plan_tree.specs.work.Paths.{Path}
+use Rattle.plan_tree.specs.work.Fronts.{AreDominated, IsOffer}
+use Rattle.plan_tree.specs.work.Reads.{IsOverTables}
+use Rattle.plan_tree.specs.work.Views.{path}
 use Rattle.plan_tree.specs.declared.path.Path.{Path as Costed}
-use Rattle.join_search.specs.Joins.{ArePlaced, HaveSameScans, IsBase, IsPathAt, IsSingle}
-use Rattle.join_search.specs.Tables.{IsSamePlace, front_at, paths_at, paths_of}
+use Rattle.join_search.specs.work.Joins.{ArePlaced, HaveSameScans, IsBase, IsPathAt, IsSingle}
+use Rattle.join_search.specs.work.Tables.{IsSamePlace, front_at, paths_at, paths_of}
 use Rattle.join_search.specs.declared.table.Table.{Table}
-use Rattle.planner.specs.Bases.{HaveScansOf, is_plan}
+use Rattle.planner.specs.work.Bases.{HaveScansOf, is_plan}
 use Rattle.planner.proofs.BaseLemmas.{scan-most}
 use Rattle.join_search.proofs.TableLemmas.{same-number as same_number}
 

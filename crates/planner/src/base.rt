@@ -4,13 +4,13 @@ ghost use Rattle.std.specs.Prelude.{◌≡◌, ◌<◌, ◌≤◌, ◌↔◌, Is
 ghost use Rattle.pg_base.specs.Sets.{has};
 ghost use Rattle.eq_classes.specs.Clauses.{one};
 ghost use Rattle.sql_query.specs.Queries.{all_of_query, width};
-ghost use Rattle.plan_tree.specs.Reads.{IsOverTables};
+ghost use Rattle.plan_tree.specs.work.Reads.{IsOverTables};
 ghost use Rattle.plan_tree.specs.Space.{IsSameSet};
-ghost use Rattle.join_search.specs.Joins.{IsBase};
-ghost use Rattle.join_search.specs.Tables.{ChangesOnlyFront, front_at, paths_at};
-ghost use Rattle.scan_paths.specs.Reached.{AreReached};
-ghost use Rattle.planner.specs.Bases.{AreAllScans, AreNamed, ChangesOnlyScans, HasAllScans, HasNoScan, HasScansAt, HaveScansOf};
-ghost use Rattle.planner.specs.Near.{IsNear};
+ghost use Rattle.join_search.specs.work.Joins.{IsBase};
+ghost use Rattle.join_search.specs.work.Tables.{ChangesOnlyFront, front_at, paths_at};
+ghost use Rattle.scan_paths.specs.work.Reached.{AreReached};
+ghost use Rattle.planner.specs.work.Bases.{AreAllScans, AreNamed, ChangesOnlyScans, HasAllScans, HasNoScan, HasScansAt, HaveScansOf};
+ghost use Rattle.planner.specs.work.Near.{IsNear};
 
 use crate::near::relations_near;
 use bitmap_scan::bitmaps;

@@ -3,14 +3,15 @@
 //! get_cheapest_fractional_path).
 
 ghost use Rattle.std.specs.Prelude.{◌≡◌, ◌⊎◌, ◌<◌, ◌≤◌, ℕ, All, IfNone, IfOk, IfSome, None, Some, length, map};
-ghost use Rattle.cost_rules.specs.Costs.{IsCost};
+ghost use Rattle.cost_rules.specs.work.Costs.{IsCost};
 ghost use Rattle.pathkeys.specs.Keys as keys;
+ghost use Rattle.pathkeys.specs.work.Keys as keys_work;
 ghost use Rattle.plan_tree.specs.Least.{IsAdmissible};
-ghost use Rattle.plan_tree.specs.Paths.{HasItsNumbers};
+ghost use Rattle.plan_tree.specs.work.Paths.{HasItsNumbers};
 ghost use Rattle.plan_tree.specs.Plans as plans;
-ghost use Rattle.plan_tree.specs.Views.{path};
-ghost use Rattle.planner.specs.Finishing.{HasItsPrice, IsLeastPlace, IsPriced, IsSortedCost, IsWhole, NoneFinishes, finished, finished_kept, finished_of};
-ghost use Rattle.planner.specs.Priced.{IsUnder};
+ghost use Rattle.plan_tree.specs.work.Views.{path};
+ghost use Rattle.planner.specs.work.Finishing.{HasItsPrice, IsLeastPlace, IsPriced, IsSortedCost, IsWhole, NoneFinishes, finished, finished_kept, finished_of};
+ghost use Rattle.planner.specs.work.Priced.{IsUnder};
 
 use catalog::Catalog;
 use cost_rules::{MOST_COST, Pair, sort};

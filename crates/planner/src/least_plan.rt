@@ -2,14 +2,15 @@
 
 ghost use Rattle.std.specs.Prelude.{◌≡◌, ◌<◌, ℕ, All, IfErr, IfNone, IfOk, IfSome, MatchOption, map};
 ghost use Rattle.sql_query.specs.Queries.{width};
-ghost use Rattle.plan_tree.specs.Reads.{IsOverTables};
-ghost use Rattle.join_search.specs.Joins.{HaveSameScans, IsBase};
-ghost use Rattle.planner.specs.Bases.{HaveScansOf};
+ghost use Rattle.plan_tree.specs.work.Reads.{IsOverTables};
+ghost use Rattle.join_search.specs.work.Joins.{HaveSameScans, IsBase};
+ghost use Rattle.planner.specs.work.Bases.{HaveScansOf};
 ghost use Rattle.pathkeys.specs.Keys as keys;
+ghost use Rattle.pathkeys.specs.work.Keys as keys_work;
 ghost use Rattle.sql_query.specs.WellBound.{IsWellBound};
-ghost use Rattle.plan_tree.specs.Views.{path};
-ghost use Rattle.join_search.specs.Tables.{none, paths_at};
-ghost use Rattle.planner.specs.Finishing.{AreCandidates, HasBestPlan, HasFinished, HasNoAdmissiblePlan, HasNoneWithin, IsWhole};
+ghost use Rattle.plan_tree.specs.work.Views.{path};
+ghost use Rattle.join_search.specs.work.Tables.{none, paths_at};
+ghost use Rattle.planner.specs.work.Finishing.{AreCandidates, HasBestPlan, HasFinished, HasNoAdmissiblePlan, HasNoneWithin, IsWhole};
 ghost use Rattle.planner.specs.declared.least_plan.PlanFault.TheVariants.{CostLimit};
 
 use crate::base::base_table;

@@ -2,10 +2,10 @@
 
 ghost use Rattle.std.specs.Prelude.{◌≡◌, ◌<◌, length};
 ghost use Rattle.pg_base.specs.Sets.{has};
-ghost use Rattle.pg_expr.specs.AtomSets.{contains};
+ghost use Rattle.pg_expr.specs.work.AtomSets.{contains};
 ghost use Rattle.sql_query.specs.Queries.{width};
-ghost use Rattle.plan_tree.specs.Reads.{IsOverTables};
-ghost use Rattle.planner.specs.Near.{AreConjuncts, AreNamedWith, HavePairs, IsNear, is_conjunct_naming};
+ghost use Rattle.plan_tree.specs.work.Reads.{IsOverTables};
+ghost use Rattle.planner.specs.work.Near.{AreConjuncts, AreNamedWith, HavePairs, IsNear, is_conjunct_naming};
 
 use catalog::Catalog;
 use eq_classes::{ClauseSet, note};

@@ -4,7 +4,8 @@ use Rattle.std.specs.Prelude.{◌↔◌}
 use Rattle.pg_value.specs.declared.columns.Column.{Column}
 use Rattle.pg_expr.specs.declared.operand.Operand.TheVariants.{Col, Lit}
 use Rattle.pg_expr.specs.Cond.{Cond, compare, is_null, is_not_null, bool_col, const, all_of, any_of, negation, Conds}
-use Rattle.predicate_proof.specs.Atoms.{is_all, is_any, is_atom, SameAtom, ComparisonGives}
+use Rattle.predicate_proof.specs.Atoms.{is_any, is_atom, SameAtom}
+use Rattle.predicate_proof.specs.work.Atoms.{is_all, ComparisonGives}
 use Rattle.predicate_proof.specs.Derivation.{Implies, each_part, each_arm, arm_by_arm, atom_to_part, part_to_atom, all_to_part, part_to_any, same, not_null, by_table, ImpliesAll, ImpliesSome, AllImply, SomeImplies, EachImpliesSome}
 
 pub atom_of_kind : (c : Cond) → is_any c ≡ false → is_all c ≡ false → is_atom c ≡ true

@@ -5,7 +5,7 @@ use Rattle.std.proofs.Math.ListN.{drop_of_length-le}
 use Rattle.pg_value.specs.declared.columns.Column.{Column}
 use Rattle.pg_expr.specs.declared.expr.Expr.{Expr}
 use Rattle.pg_expr.specs.Cond.{Cond, Conds, no_conds, cond_and, conds_of}
-use Rattle.pg_expr.specs.View.{cond, conds}
+use Rattle.pg_expr.specs.work.View.{cond, conds}
 use Rattle.predicate_proof.proofs.Weight.{weight, weight_all}
 use Rattle.predicate_proof.specs.Derivation.{Implies, ImpliesAll, part_and, ImpliesSome, this_part, later_part, AllImply, arm_and, SomeImplies, this_clause, later_clause, EachImpliesSome, choice_and}
 

@@ -25,7 +25,7 @@ use Rattle.pg_expr.specs.Truths.{value_of, truth_of_null, truth_of_flag, truth_a
 use Rattle.pg_value.specs.Types.{IsOfType, in_range, limit}
 use Rattle.predicate_proof.specs.Atoms.{SameSide, SameAtom, has_column_number, typed_family, operator_family, IsFamilyValue, CellHolds, TableGives}
 use Rattle.predicate_proof.specs.Derivation.{Implies, each_part, each_arm, arm_by_arm, atom_to_part, part_to_atom, all_to_part, part_to_any, same, not_null, by_table, ImpliesAll, no_part, part_and, ImpliesSome, this_part, later_part, AllImply, no_arm, arm_and, SomeImplies, this_clause, later_clause, EachImpliesSome, no_choice, choice_and}
-use Rattle.predicate_proof.specs.Rows.{at_row, FitsColumns}
+use Rattle.predicate_proof.specs.work.Rows.{at_row, FitsColumns}
 use Rattle.predicate_proof.proofs.Table.{cell-sound}
 use Rattle.pg_expr.proofs.DefinedLaws.{no_number}
 

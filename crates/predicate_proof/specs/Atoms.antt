@@ -17,14 +17,7 @@ use Rattle.opfamily.specs.Answers.{default_family_of}
 use Rattle.pg_expr.specs.declared.operand.ColRef.{ColRef}
 use Rattle.pg_expr.specs.declared.operand.Operand.{Operand}
 use Rattle.pg_expr.specs.declared.operand.Operand.TheVariants.{Col, Lit}
-use Rattle.pg_expr.specs.Columns.{some_column}
-use Rattle.predicate_proof.specs.declared.atoms.Comparison.{Comparison}
 use Rattle.pg_expr.specs.Cond.{Cond, compare, is_null, is_not_null, bool_col, const, all_of, any_of, negation}
-
--- a condition is an AND
-abbrev pub is_all : Cond → Bool
-is_all (all_of cs) = true
-is_all _ = false
 
 -- a condition is an OR
 abbrev pub is_any : Cond → Bool
@@ -113,13 +106,3 @@ CellHolds (Some f) op v other w = IsFamilyValue f v × IsFamilyValue f w × IsTr
 -- a comparison of a column with a literal implies another of the same column: both operators are of one family, and the table's cell holds
 abbrev pub TableGives : List Column → Op → ColNo → Value → Op → ColNo → Value → Type 0
 TableGives columns op c v other d w = (c ≡ d) × (operator_family columns c op ≡ operator_family columns d other) × CellHolds (operator_family columns c op) op v other w
-
--- a comparison of a column with a literal implies another by the table
-abbrev pub Gives : List Column → Comparison → Comparison → Type 0
-Gives columns given wanted = TableGives columns given.op given.col given.value.now wanted.op wanted.col wanted.value.now
-
--- what a comparison implies beside its equals: IS NOT NULL of each column in it, and by the table comparisons of its column
-abbrev pub ComparisonGives : List Column → Cond → Cond → Type 0
-ComparisonGives columns (compare op l r) (is_not_null d) = IsTrue (some_column (has_column_number d.col) (compare op l r))
-ComparisonGives columns (compare op (Col c) (Lit v)) (compare other (Col d) (Lit w)) = TableGives columns op c.col v other d.col w
-ComparisonGives columns _ _ = ⊥

@@ -62,16 +62,3 @@ mutual
 -- a list of clauses, which is an AND, implies the predicate
 abbrev pub IsImplied : List Column → List Cond → Cond → Type 0
 IsImplied columns clauses p = Implies columns (all_of (conds_of clauses)) p
-
--- each AND and each OR of a condition has a part
-abbrev mutual
-  pub IsFilled : Cond → Type 0
-  IsFilled (all_of no_conds) = ⊥
-  IsFilled (any_of no_conds) = ⊥
-  IsFilled (all_of cs) = AreFilled cs
-  IsFilled (any_of cs) = AreFilled cs
-  IsFilled _ = Unit {0}
-
-  pub AreFilled : Conds → Type 0
-  AreFilled no_conds = Unit {0}
-  AreFilled (cond_and c cs) = IsFilled c × AreFilled cs

@@ -1,4 +1,3 @@
 pub mod Atoms
 pub mod Derivation
-pub mod Notes
-pub mod Rows
+pub mod work

@@ -2,8 +2,9 @@
 
 ghost use Rattle.std.specs.Prelude.{◌≡◌, ◌↔◌, IsTrue, Some};
 ghost use Rattle.pg_expr.specs.Columns.{names_column};
-ghost use Rattle.pg_expr.specs.View.{cond};
-ghost use Rattle.predicate_proof.specs.Atoms.{CellHolds, ComparisonGives, Gives, IsFamilyValue, SameAtom, SameSide, implication_cell, has_column_number, operator_family, plain, typed_family};
+ghost use Rattle.pg_expr.specs.work.View.{cond};
+ghost use Rattle.predicate_proof.specs.Atoms.{CellHolds, IsFamilyValue, SameAtom, SameSide, implication_cell, has_column_number, operator_family, plain, typed_family};
+ghost use Rattle.predicate_proof.specs.work.Atoms.{ComparisonGives, Gives};
 
 use opfamily::default_family;
 use pg_base::ColNo;

@@ -2,10 +2,10 @@
 
 ghost use Rattle.std.specs.Prelude.{◌≡◌, ◌↔◌, IsTrue, true};
 ghost use Rattle.pg_expr.specs.Cond.{any_of};
-ghost use Rattle.pg_expr.specs.View.{cond, conds};
+ghost use Rattle.pg_expr.specs.work.View.{cond, conds};
 ghost use Rattle.predicate_proof.specs.Atoms.{is_atom};
 ghost use Rattle.predicate_proof.specs.Derivation.{AllImply, EachImpliesSome, Implies, ImpliesAll, ImpliesSome, SomeImplies};
-ghost use Rattle.predicate_proof.specs.Notes.{AreRight};
+ghost use Rattle.predicate_proof.specs.work.Notes.{AreRight};
 
 use crate::atoms::{comparison_gives, same_atom};
 use crate::notes::{MOST_LEVELS, MOST_NOTES, Note, add_note, has_levels, noted, parts_of};

@@ -2,10 +2,11 @@
 
 ghost use Rattle.std.specs.Prelude.{◌≡◌, ◌<◌, ◌↔◌, IsTrue, length, slice_get, Some, List, []};
 ghost use Rattle.pg_expr.specs.Cond.{Cond, all_of, conds_of};
-ghost use Rattle.pg_expr.specs.View.{cond, conds};
+ghost use Rattle.pg_expr.specs.work.View.{cond, conds};
 ghost use Rattle.pg_value.specs.declared.columns.Column.{Column};
-ghost use Rattle.predicate_proof.specs.Derivation.{Implies, ImpliesAll, ImpliesSome, IsFilled, IsImplied, SomeImplies};
-ghost use Rattle.predicate_proof.specs.Rows.{HoldsWherever};
+ghost use Rattle.predicate_proof.specs.Derivation.{Implies, ImpliesAll, ImpliesSome, IsImplied, SomeImplies};
+ghost use Rattle.predicate_proof.specs.work.Derivation.{IsFilled};
+ghost use Rattle.predicate_proof.specs.work.Rows.{HoldsWherever};
 
 use crate::conditions::follows;
 use crate::parts::{and_parts, or_parts};

@@ -2,9 +2,9 @@
 //! another one, and then the answer is worked out again.
 
 ghost use Rattle.std.specs.Prelude.{◌↔◌, IfSome, IsTrue};
-ghost use Rattle.pg_expr.specs.View.{cond};
+ghost use Rattle.pg_expr.specs.work.View.{cond};
 ghost use Rattle.predicate_proof.specs.Derivation.{Implies};
-ghost use Rattle.predicate_proof.specs.Notes.{AreRight};
+ghost use Rattle.predicate_proof.specs.work.Notes.{AreRight};
 
 use pg_expr::{Expr, Operand, is_same};
 use pg_value::{Column, Value};

@@ -2,8 +2,9 @@
 
 ghost use Rattle.std.specs.Prelude.{◌≡◌, false, MatchOption};
 ghost use Rattle.pg_expr.specs.Cond.{all_of, any_of};
-ghost use Rattle.pg_expr.specs.View.{cond, conds};
-ghost use Rattle.predicate_proof.specs.Atoms.{is_all, is_any};
+ghost use Rattle.pg_expr.specs.work.View.{cond, conds};
+ghost use Rattle.predicate_proof.specs.Atoms.{is_any};
+ghost use Rattle.predicate_proof.specs.work.Atoms.{is_all};
 
 use pg_expr::Expr;
 

@@ -8,7 +8,7 @@ use Rattle.pg_expr.specs.declared.operand.ColRef.{ColRef}
 use Rattle.query_reader.specs.declared.written.Item.{Item}
 use Rattle.expr_reader.specs.Scope.{Scope}
 use Rattle.query_reader.specs.Binding.{then_columns, item_columns, list_columns}
-use Rattle.query_reader.specs.Adds.{Adds, AddsAll}
+use Rattle.query_reader.specs.work.Adds.{Adds, AddsAll}
 
 -- what is added after a call that succeeds, and what is told after one that fails
 pub record Added (x : Result (List ColRef) Fault) (old new : List ColRef) : Type 0 where

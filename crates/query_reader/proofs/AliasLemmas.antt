@@ -22,7 +22,7 @@ use Rattle.sql_lex.specs.declared.tokens.Token.{Token}
 use Rattle.sql_query.specs.Queries.{Query}
 use Rattle.query_reader.specs.declared.written.Item.{Item}
 use Rattle.query_reader.specs.Binding.{bound_from, bound_over}
-use Rattle.query_reader.specs.Select.{IsBoundAs}
+use Rattle.query_reader.specs.work.Select.{IsBoundAs}
 use Rattle.query_reader.proofs.QueryLemmas.{over-range}
 use Rattle.query_reader.specs.From.{Joined, nothing_joined, alias_or, conjuncts_of_expr, is_taken, of_table, with_condition, with_group, with_groups, with_join, with_joins, with_relation}
 use Rattle.query_reader.specs.Scope.{scope_after}

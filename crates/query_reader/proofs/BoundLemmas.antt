@@ -13,14 +13,15 @@ use Rattle.sql_lex.specs.declared.tokens.Token.{Token}
 use Rattle.sql_query.specs.WellBound.{IsColumnOf, IsWellBound}
 use Rattle.sql_query.specs.declared.window.Window.{Window}
 use Rattle.sql_query.proofs.OrderLemmas.{own_directions, own_stands}
-use Rattle.query_reader.specs.Select.{IsBoundByItself}
+use Rattle.query_reader.specs.work.Select.{IsBoundByItself}
 use Rattle.query_reader.specs.declared.written.Item.{Item}
 use Rattle.query_reader.specs.declared.written.Item.TheVariants.{Every, EveryOf, Bare, Qualified}
 use Rattle.expr_reader.specs.Scope.{Scope, Visible, columns_in_scope, under, of_name, the_one, among, look_up}
 use Rattle.expr_reader.specs.declared.found.Found.{Found}
 use Rattle.expr_reader.specs.declared.found.Found.TheVariants.{One, NoTable, NoColumn, Many}
-use Rattle.query_reader.specs.From.{AreRelations}
-use Rattle.query_reader.specs.Scope.{Sight, columns_from, relations_from, scope_after, scope_of, visible_in}
+use Rattle.query_reader.specs.work.From.{AreRelations}
+use Rattle.query_reader.specs.Scope.{columns_from, relations_from, scope_after, scope_of}
+use Rattle.query_reader.specs.work.Scope.{Sight, visible_in}
 use Rattle.query_reader.specs.Binding.{query_with, alone, found_relation, past_limit, then_columns, item_columns, list_columns}
 use Rattle.expr_reader.specs.Conditions.{next, the_column}
 use Rattle.query_reader.specs.Named.{columns_in_all}
@@ -35,7 +36,7 @@ use Rattle.eq_classes.specs.Clauses.{ClassTable}
 use Rattle.eq_classes.specs.Holding.{IsClassTable as IsTableOf}
 use Rattle.eq_classes.proofs.HoldLemmas.{map_in}
 use Rattle.eq_classes.proofs.ListLemmas.{IsIn, all_at, all_from, contains_from_in, in_left, in_parts, in_right}
-use Rattle.path_cost.specs.Columns.{IsOver, is_column_in}
+use Rattle.path_cost.specs.work.Columns.{IsOver, is_column_in}
 use Rattle.std.proofs.Math.Seq.{get_or-append_seam}
 use Rattle.std.proofs.lemmas.Bool.{cases_Bool, ltb-true}
 use Rattle.std.proofs.lemmas.List.{get_or_default, length-take-le, nil_from_length, take-append-drop}

@@ -15,17 +15,17 @@ use Rattle.pg_expr.specs.Cond.{Cond, compare, is_null, is_not_null, bool_col, co
 use Rattle.pg_expr.specs.Conjuncts.{conjuncts_of}
 use Rattle.pg_expr.specs.Pushed.{pushed}
 use Rattle.pg_expr.specs.Typed.{IsTyped, AreTyped}
-use Rattle.pg_expr.specs.View as view
+use Rattle.pg_expr.specs.work.View as view
 use Rattle.pg_expr.proofs.ColumnLaws.{weaker-each}
 use Rattle.pg_expr.proofs.KeptLaws.{conjuncts-each, conjuncts-typed}
-use Rattle.expr_reader.specs.Counts.{conjuncts_counted, count_of}
+use Rattle.expr_reader.specs.work.Counts.{conjuncts_counted, count_of}
 use Rattle.catalog.specs.Contents.{Contents, table_at}
 use Rattle.catalog.specs.Range.{Range, table_of, type_in}
 use Rattle.eq_classes.specs.Classes.{conjuncts_in, listed}
 use Rattle.eq_classes.specs.declared.order.OrderItem.{OrderItem}
 use Rattle.eq_classes.proofs.ListLemmas.{IsIn, all_at, all_from, in_parts, in_left, in_right}
 use Rattle.eq_classes.proofs.WrittenLemmas.{in_columns, in_typed}
-use Rattle.path_cost.specs.Columns.{IsOver, is_column_in}
+use Rattle.path_cost.specs.work.Columns.{IsOver, is_column_in}
 use Rattle.sql_query.specs.WellBound.{IsColumnOf, IsWithinLimits, NamesOnly}
 use Rattle.query_reader.specs.Binding.{past_limit}
 use Rattle.query_reader.specs.Named.{columns_in, columns_in_all}

@@ -6,15 +6,18 @@ use Rattle.std.proofs.lemmas.Bool.{eq-eqb, eqb-true, not-false}
 use Rattle.pg_base.specs.declared.faults.Fault.{Fault}
 use Rattle.pg_base.specs.declared.limits.TheConstants.{MOST_LEVELS}
 use Rattle.sql_lex.specs.declared.tokens.Token.{Token}
-use Rattle.sql_grammar.specs.Terminals.{Terminal, class_of, t_semicolon, t_end}
-use Rattle.sql_grammar.specs.Reading.{AreTokens, ends_once, is_end, terminal_of}
-use Rattle.sql_grammar.specs.Table.{is_ending}
+use Rattle.sql_grammar.specs.Terminals.{Terminal, t_semicolon, t_end}
+use Rattle.sql_grammar.specs.work.Terminals.{class_of}
+use Rattle.sql_grammar.specs.Reading.{terminal_of}
+use Rattle.sql_grammar.specs.work.Reading.{AreTokens, ends_once, is_end}
+use Rattle.sql_grammar.specs.work.Table.{is_ending}
 use Rattle.sql_grammar.specs.Syntax.{Ending, semicolon, text_end, WindowedSelect, windowed_select}
 use Rattle.sql_grammar.specs.Words.{levels_of, levels_of_windowed, words_of_ending, words_of_windowed}
-use Rattle.sql_grammar.specs.Faults.{AreWithinLimits, EndsAt, IsPartEnd, IsWhole, IsWindowed, limit_of, terminals}
+use Rattle.sql_grammar.specs.Faults.{AreWithinLimits, limit_of, terminals}
+use Rattle.sql_grammar.specs.work.Faults.{EndsAt, IsPartEnd, IsWhole, IsWindowed}
 use Rattle.sql_grammar.proofs.PartEnds.{windowed-ends}
-use Rattle.query_reader.specs.Parts.{as_statement, HaveSelectAt}
-use Rattle.query_reader.specs.Select.{AreGrouped, begins_select}
+use Rattle.query_reader.specs.work.Parts.{as_statement, HaveSelectAt}
+use Rattle.query_reader.specs.work.Select.{AreGrouped, begins_select}
 use Rattle.query_reader.proofs.PlaceLemmas.{ended, one-end, select-there}
 
 -- the last of the tokens is an end

@@ -2,7 +2,7 @@
 use Rattle.std.proofs.Common.{◌≡◌, ℕ, ◌<◌, true, List, [], ◌∷◌, ◌++◌, length, map, Some, refl, sym, ap, subst, ◌∙◌, append_assoc, arith, length-append}
 use Rattle.std.proofs.lemmas.List.{map-append}
 use Rattle.pg_expr.specs.declared.expr.Expr.{Expr as ExprRead}
-use Rattle.pg_expr.specs.View.{cond}
+use Rattle.pg_expr.specs.work.View.{cond}
 use Rattle.catalog.specs.Contents.{Contents}
 use Rattle.catalog.specs.Range.{Range}
 use Rattle.sql_lex.specs.declared.tokens.Token.{Token}
@@ -12,13 +12,13 @@ use Rattle.sql_grammar.specs.declared.class.Symbol.TheVariants.{Comma}
 use Rattle.sql_grammar.specs.FromParts.{groups_after}
 use Rattle.sql_grammar.specs.Syntax.{Key, Mark, Expr, Relation, Join, join_on, cross_join, Group, group_of}
 use Rattle.sql_grammar.specs.Words.{words_of_expr, words_of_group, words_of_groups, words_of_joins, words_of_relation}
-use Rattle.expr_reader.specs.Reading.{BeginsNot}
+use Rattle.expr_reader.specs.work.Reading.{BeginsNot}
 use Rattle.expr_reader.specs.Conditions.{next}
 use Rattle.query_reader.specs.declared.written.Joining.{Joining}
 use Rattle.query_reader.specs.declared.written.Joining.TheVariants.{On, Cross}
-use Rattle.query_reader.specs.Ends.{ends_from}
+use Rattle.query_reader.specs.work.Ends.{ends_from}
 use Rattle.query_reader.specs.From.{Joined, with_condition, with_join, with_relation}
-use Rattle.query_reader.specs.Joins.{IsNext, NextOn, NextCross}
+use Rattle.query_reader.specs.work.Joins.{IsNext, NextOn, NextCross}
 use Rattle.query_reader.specs.Written.{source_of}
 
 -- a join with a condition

@@ -13,12 +13,13 @@ use Rattle.sql_grammar.specs.Terminals.{Terminal, free, t_name}
 use Rattle.sql_grammar.specs.Reading.{terminal_of}
 use Rattle.sql_grammar.specs.declared.offered.TheConstants.{READS_GROUPS}
 use Rattle.sql_grammar.specs.Syntax.{GroupedSelect, IsOffered, MaybeExplain, OrderedSelect, semicolon, text_end, index_on, Statement, empty, create_table, create_index, query, copy, sizes, column_statistics, analyze, advise, advise_of, check, use_plan, grouped}
-use Rattle.sql_grammar.specs.Faults.{IsStatement, IsPrefix, IsAtFault, IsFirstFault, IsWhole, AreWithinLimits, terminals, limit_of}
+use Rattle.sql_grammar.specs.Faults.{IsStatement, IsPrefix, IsAtFault, IsFirstFault, AreWithinLimits, terminals, limit_of}
+use Rattle.sql_grammar.specs.work.Faults.{IsWhole}
 use Rattle.sql_grammar.specs.Spelled.{IsSpelled}
 use Rattle.sql_grammar.specs.Words.{words_of}
 use Rattle.sql_grammar.proofs.StatementTrees.{one_tree}
-use Rattle.query_reader.specs.Select.{AreGrouped, AreNoOther, AreSelect, begins_query, is_explained, is_query}
-use Rattle.expr_reader.specs.Reading.{Begins, BeginsNot}
+use Rattle.query_reader.specs.work.Select.{AreGrouped, AreNoOther, AreSelect, begins_query, is_explained, is_query}
+use Rattle.expr_reader.specs.work.Reading.{Begins, BeginsNot}
 
 -- EXPLAIN is the first word, or it is not
 unexplained : (ts : List Terminal) → BeginsNot (λ token. t_name (free Explain token)) ts → false ≡ is_explained ts

@@ -5,11 +5,11 @@ use Rattle.sql_grammar.specs.Terminals.{Terminal, Ident, t_key, t_mark, t_name, 
 use Rattle.sql_grammar.specs.declared.class.Word.TheVariants.{Group as GroupKey, Cross as CrossKey, Inner as InnerKey, Join as JoinKey, Limit as LimitKey, Offset as OffsetKey, On as OnKey, Where as WhereKey, Order}
 use Rattle.sql_grammar.specs.declared.class.Symbol.TheVariants.{Comma}
 use Rattle.sql_grammar.specs.Syntax.{Mark, Alias, Relation, relation, no_inner, inner, Join, join_on, cross_join, Group, Where, no_where, where_expr, OrderBy, no_order, order_by}
-use Rattle.sql_grammar.specs.Unique.{ends_expr}
+use Rattle.sql_grammar.specs.work.Unique.{ends_expr}
 use Rattle.sql_grammar.specs.Words.{words_of_alias, words_of_expr, words_of_groups, words_of_join, words_of_joins, words_of_order, words_of_relation, words_of_where}
-use Rattle.expr_reader.specs.Reading.{BeginsNot}
-use Rattle.query_reader.specs.Ends.{ends_alias, ends_from, ends_group, ends_order}
-use Rattle.query_reader.specs.Joins.{NextOn, NextCross, NoJoin}
+use Rattle.expr_reader.specs.work.Reading.{BeginsNot}
+use Rattle.query_reader.specs.work.Ends.{ends_alias, ends_from, ends_group, ends_order}
+use Rattle.query_reader.specs.work.Joins.{NextOn, NextCross, NoJoin}
 
 -- a relation is a name and an alias
 pub record RelationWords (r : Relation) (rest old : List Terminal) : Type 0 where

@@ -15,22 +15,24 @@ use Rattle.sql_grammar.specs.declared.class.Free.TheVariants.{Nulls}
 use Rattle.sql_grammar.specs.Faults.{bytes_of}
 use Rattle.sql_grammar.specs.Terminals.{Terminal, Ident, free, token_of, t_key, t_mark, t_name, t_semicolon, t_end}
 use Rattle.sql_grammar.specs.Syntax.{Mark, Col, bare, qualified, Direction, no_direction, ascending, descending, NullsEnd, no_nulls_end, nulls_first, nulls_last, Ordering, ordering, OrderBy, no_order, order_by}
-use Rattle.sql_grammar.specs.Unique.{ends_operand}
+use Rattle.sql_grammar.specs.work.Unique.{ends_operand}
 use Rattle.sql_grammar.specs.Words.{words_of_col, words_of_direction, words_of_nulls_end, words_of_ordering, words_of_orderings, words_of_order}
 use Rattle.expr_reader.specs.Lists.{further_parts, bound_each}
 use Rattle.expr_reader.specs.declared.cursor.Spelled.{Spelled}
-use Rattle.expr_reader.specs.Reading.{BeginsName, BeginsNot, spelled}
-use Rattle.expr_reader.specs.Sorts.{is_descending, has_nulls_first, ends_direction, ends_nulls_end}
+use Rattle.expr_reader.specs.Reading.{spelled}
+use Rattle.expr_reader.specs.work.Reading.{BeginsName, BeginsNot}
+use Rattle.expr_reader.specs.Sorts.{is_descending, has_nulls_first}
+use Rattle.expr_reader.specs.work.Sorts.{ends_direction, ends_nulls_end}
 use Rattle.expr_reader.proofs.EachLemmas.{bound-err, bound-ok, each-holds}
 use Rattle.expr_reader.specs.declared.found.Found.{Found}
 use Rattle.expr_reader.specs.declared.found.Found.TheVariants.{One}
 use Rattle.expr_reader.specs.Conditions.{next, the_column}
-use Rattle.expr_reader.specs.Reads.{Reads}
+use Rattle.expr_reader.specs.work.Reads.{Reads}
 use Rattle.expr_reader.specs.Scope.{Visible, Scope, of_name, look_up}
 use Rattle.expr_reader.proofs.OperandLemmas.{is-found}
 use Rattle.expr_reader.proofs.ReadsLemmas.{read-ok, read-refused, was-read}
 use Rattle.expr_reader.proofs.ScopeLemmas.{found-all, the-one-all}
-use Rattle.query_reader.specs.Ends.{ends_order, ends_ordering}
+use Rattle.query_reader.specs.work.Ends.{ends_order, ends_ordering}
 use Rattle.query_reader.specs.Order.{shown_of_name, first_among, order_column, order_item, order_items}
 
 -- what stands behind an item

@@ -6,12 +6,13 @@ use Rattle.sql_grammar.specs.Syntax.{Key, Mark, bare, qualified, Output, every, 
 use Rattle.sql_grammar.specs.Words.{words_of_output, words_of_outputs, words_of_alias}
 use Rattle.sql_grammar.specs.declared.class.Word.TheVariants.{As, From}
 use Rattle.sql_grammar.specs.declared.class.Symbol.TheVariants.{Comma, Dot, Star}
-use Rattle.expr_reader.specs.Reading.{BeginsNot, BeginsName, BeginsNoName, spelled}
+use Rattle.expr_reader.specs.Reading.{spelled}
+use Rattle.expr_reader.specs.work.Reading.{BeginsNot, BeginsName, BeginsNoName}
 use Rattle.expr_reader.specs.declared.cursor.Spelled.{Spelled}
 use Rattle.query_reader.specs.declared.written.Item.{Item}
 use Rattle.query_reader.specs.declared.written.Item.TheVariants.{Bare, Qualified}
 use Rattle.query_reader.specs.Written.{item_of, items_of, alias_of}
-use Rattle.query_reader.specs.Ends.{ends_item, ends_alias}
+use Rattle.query_reader.specs.work.Ends.{ends_item, ends_alias}
 
 -- the alias after AS
 pub record AfterAs (a : Alias) (rest left : List Terminal) : Type 0 where

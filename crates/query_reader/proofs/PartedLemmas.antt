@@ -15,13 +15,13 @@ use Rattle.catalog.specs.Range.{Range, type_in}
 use Rattle.catalog.specs.Tables.{table_named}
 use Rattle.eq_classes.specs.Classes.{listed}
 use Rattle.sql_lex.specs.declared.tokens.Token.{Token}
-use Rattle.sql_grammar.specs.Faults.{IsWhole}
+use Rattle.sql_grammar.specs.work.Faults.{IsWhole}
 use Rattle.sql_grammar.specs.FromParts.{groups_after}
 use Rattle.sql_grammar.specs.Syntax.{Expr, Join, join_on, cross_join, Group, group_of, Where, no_where, where_expr, select_from, OrderBy, WindowTree, WindowedSelect, windowed_select}
 use Rattle.expr_reader.specs.declared.cursor.Spelled.{Spelled}
 use Rattle.sql_query.specs.Queries.{Query}
 use Rattle.expr_reader.specs.Conditions.{meaning_of_expr, next}
-use Rattle.expr_reader.specs.Parted.{HasParts, HaveParts}
+use Rattle.expr_reader.specs.work.Parted.{HasParts, HaveParts}
 use Rattle.expr_reader.specs.Scope.{Scope}
 use Rattle.expr_reader.proofs.PartedLemmas.{meaning-parted}
 use Rattle.query_reader.specs.declared.written.Item.{Item}
@@ -29,9 +29,9 @@ use Rattle.query_reader.specs.declared.written.Source.{Source}
 use Rattle.query_reader.specs.Binding.{Bound, bound_over, bound_from, bound_part, conjuncts_written, limited, list_columns, past_limit}
 use Rattle.query_reader.specs.From.{Joined, alias_or, conjuncts_of_expr, is_taken, nothing_joined, of_table, under_alias, with_condition, with_group, with_groups, with_join, with_joins, with_relation}
 use Rattle.query_reader.specs.Order.{order_items}
-use Rattle.query_reader.specs.Parts.{IsSelectAt}
+use Rattle.query_reader.specs.work.Parts.{IsSelectAt}
 use Rattle.query_reader.specs.Scope.{scope_after, scope_of}
-use Rattle.query_reader.specs.Select.{IsBoundAs, IsGrammatical}
+use Rattle.query_reader.specs.work.Select.{IsBoundAs, IsGrammatical}
 use Rattle.query_reader.specs.Windows.{window_of}
 use Rattle.query_reader.specs.Written.{item_of, items_of, source_of}
 use Rattle.std.specs.Prelude.{nat_lt}

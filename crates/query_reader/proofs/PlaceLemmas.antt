@@ -12,12 +12,14 @@ use Rattle.sql_grammar.specs.Terminals.{Terminal, t_key}
 use Rattle.sql_grammar.specs.Reading.{terminal_of}
 use Rattle.sql_grammar.specs.Syntax.{no_limit, no_offset, window, select_from, WindowedSelect, windowed_select, Ending, semicolon, text_end, no_explain, explain, explain_table, OrderedSelect, ordered_select, Statement, empty, create_table, create_index, query, copy, sizes, column_statistics, analyze, advise, check, use_plan, grouped}
 use Rattle.sql_grammar.specs.Words.{levels_of, words_of, words_of_ending, words_of_order, words_of_ordered, words_of_select, words_of_window, words_of_windowed}
-use Rattle.sql_grammar.specs.Faults.{AreWithinLimits, EndsAt, IsFirstFault, IsStatement, IsWhole, IsWindowed, fault_at, limit_of, terminals}
+use Rattle.sql_grammar.specs.Faults.{AreWithinLimits, IsFirstFault, IsStatement, fault_at, limit_of, terminals}
+use Rattle.sql_grammar.specs.work.Faults.{EndsAt, IsWhole, IsWindowed}
 use Rattle.sql_grammar.specs.Spelled.{IsSpelled}
-use Rattle.sql_grammar.specs.Unique.{ends_windowed}
-use Rattle.expr_reader.specs.Reading.{Begins, BeginsNot}
-use Rattle.query_reader.specs.Parts.{IsPartAt, HavePart, as_statement, IsSelectAt, HaveSelectAt, select_of}
-use Rattle.query_reader.specs.Select.{AreGrouped, AreSelect, IsAtFirst, IsFaultBy, IsNoSelectAt, begins_query, begins_select, words_before}
+use Rattle.sql_grammar.specs.work.Unique.{ends_windowed}
+use Rattle.expr_reader.specs.work.Reading.{Begins, BeginsNot}
+use Rattle.query_reader.specs.work.Parts.{IsPartAt, HavePart, as_statement, IsSelectAt, HaveSelectAt, select_of}
+use Rattle.query_reader.specs.Select.{words_before}
+use Rattle.query_reader.specs.work.Select.{AreGrouped, AreSelect, IsAtFirst, IsFaultBy, IsNoSelectAt, begins_query, begins_select}
 use Rattle.query_reader.proofs.GrammarLemmas.{excluded, forms-apart, no-other, whole-query}
 
 -- one word ends a statement, and no SELECT goes on with it

@@ -15,23 +15,24 @@ use Rattle.sql_lex.specs.declared.tokens.Token.{Token}
 use Rattle.sql_grammar.specs.Faults.{fault_at}
 use Rattle.sql_grammar.specs.Syntax.{Where, OrderBy, WindowTree}
 use Rattle.sql_grammar.specs.Terminals.{Terminal}
-use Rattle.expr_reader.specs.Reads.{Reads}
+use Rattle.expr_reader.specs.work.Reads.{Reads}
 use Rattle.expr_reader.proofs.StepLemmas.{step, stop}
 use Rattle.sql_query.specs.Queries.{Query}
 use Rattle.sql_query.specs.declared.window.Window.{Window}
 use Rattle.expr_reader.specs.Conditions.{next}
 use Rattle.query_reader.specs.declared.written.Item.{Item}
 use Rattle.query_reader.specs.Order.{order_items}
-use Rattle.query_reader.specs.Scope.{scope_of, visible_in, Sight}
+use Rattle.query_reader.specs.Scope.{scope_of}
+use Rattle.query_reader.specs.work.Scope.{visible_in, Sight}
 use Rattle.query_reader.specs.From.{Joined}
 use Rattle.query_reader.specs.Windows.{window_of}
 use Rattle.pg_expr.specs.declared.expr.Expr.{Expr as ExprRead}
-use Rattle.pg_expr.specs.View.{cond}
+use Rattle.pg_expr.specs.work.View.{cond}
 use Rattle.std.proofs.lemmas.List.{map-append}
-use Rattle.query_reader.specs.Select.{IsBoundByItself, IsBoundAs}
-use Rattle.query_reader.specs.Adds.{AddsAll}
+use Rattle.query_reader.specs.work.Select.{IsBoundByItself, IsBoundAs}
+use Rattle.query_reader.specs.work.Adds.{AddsAll}
 use Rattle.query_reader.specs.Binding.{Bound, bound_over, conjuncts_written, limited, list_columns, named_in, past_limit, query_with}
-use Rattle.query_reader.specs.Conveys.{Conveys}
+use Rattle.query_reader.specs.work.Conveys.{Conveys}
 
 -- all columns are added
 pub record AddedAll (x : Result (List ColRef) Fault) (old new : List ColRef) : Type 0 where

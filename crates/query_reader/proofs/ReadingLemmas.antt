@@ -17,9 +17,9 @@ use Rattle.sql_query.specs.Queries.{Query}
 use Rattle.sql_grammar.specs.FromParts.{groups_after}
 use Rattle.query_reader.specs.Written.{item_of, items_of}
 use Rattle.query_reader.specs.Binding.{Bound, bound_from, bound_part}
-use Rattle.query_reader.specs.Ends.{ends_where, ends_order, ends_window}
-use Rattle.query_reader.specs.Select.{AreWithSelectAt, IsBoundAs, IsGrammatical}
-use Rattle.query_reader.specs.Parts.{IsPartAt}
+use Rattle.query_reader.specs.work.Ends.{ends_where, ends_order, ends_window}
+use Rattle.query_reader.specs.work.Select.{AreWithSelectAt, IsBoundAs, IsGrammatical}
+use Rattle.query_reader.specs.work.Parts.{IsPartAt}
 use Rattle.sql_grammar.proofs.GroupRules.{list-words as regroup}
 
 -- the names among what is left of some words

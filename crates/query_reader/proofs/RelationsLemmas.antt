@@ -21,9 +21,10 @@ use Rattle.expr_reader.specs.Scope.{Scope, Visible, columns_in_scope, under, of_
 use Rattle.expr_reader.specs.declared.found.Found.{Found}
 use Rattle.expr_reader.specs.declared.found.Found.TheVariants.{One, NoTable, NoColumn, Many}
 use Rattle.query_reader.specs.Binding.{found_relation}
-use Rattle.query_reader.specs.From.{AreRelations}
+use Rattle.query_reader.specs.work.From.{AreRelations}
 use Rattle.query_reader.specs.Order.{first_among, shown_of_name}
-use Rattle.query_reader.specs.Scope.{Sight, also, columns_from, own_columns, relations_from}
+use Rattle.query_reader.specs.Scope.{columns_from, relations_from}
+use Rattle.query_reader.specs.work.Scope.{Sight, also, own_columns}
 use Rattle.query_reader.proofs.ScopeLemmas.{differs, found_at, found-from, under-same, under-other}
 
 -- the column of that number of a relation, where there is one

@@ -28,10 +28,11 @@ use Rattle.catalog.specs.Contents.{Contents, IsTable, IsLawfulTable, table_at}
 use Rattle.catalog.specs.Range.{Range, aliases, relation_at, type_in, table_of}
 use Rattle.catalog.specs.Indexes.{no_column}
 use Rattle.eq_classes.proofs.ListLemmas.{Before, IsIn, any_from, in_parts, pairs_all, pairs_at}
-use Rattle.path_cost.specs.Columns.{IsOver, is_column_in}
+use Rattle.path_cost.specs.work.Columns.{IsOver, is_column_in}
 use Rattle.sql_grammar.specs.Terminals.{Terminal}
-use Rattle.query_reader.specs.Conveys.{Conveys, ReadsInto}
-use Rattle.query_reader.specs.From.{AreRelations, is_taken}
+use Rattle.query_reader.specs.work.Conveys.{Conveys, ReadsInto}
+use Rattle.query_reader.specs.From.{is_taken}
+use Rattle.query_reader.specs.work.From.{AreRelations}
 
 -- an answer of a step: what is meant, its fault, or out of memory
 pub conveys-ok : {A T : Type 0} (Says : A → T → Type 0) (m : Result A Fault) (a : A) (v : T) → m ≡ Ok a → Says a v → Conveys Says m (Ok v)

@@ -4,7 +4,7 @@ use Rattle.sql_lex.specs.declared.tokens.Token.{Token}
 use Rattle.sql_grammar.specs.declared.class.Free.TheVariants.{Explain}
 use Rattle.sql_grammar.specs.declared.class.Symbol.TheVariants.{Open}
 use Rattle.sql_grammar.specs.Terminals.{Terminal, free, t_mark, t_name}
-use Rattle.expr_reader.specs.Reading.{Begins, BeginsNot}
+use Rattle.expr_reader.specs.work.Reading.{Begins, BeginsNot}
 use Rattle.query_reader.specs.Wanted.{wanted_by}
 use Rattle.query_reader.specs.declared.wanted.Wanted.TheVariants.{Rows, Plan, Table}
 

@@ -10,21 +10,21 @@ use Rattle.pg_expr.specs.declared.expr.Expr.{Expr as ExprRead}
 use Rattle.pg_expr.specs.declared.expr.Exprs.{Exprs}
 use Rattle.pg_expr.specs.Cond.{Cond}
 use Rattle.pg_expr.specs.Conjuncts.{conjuncts_of}
-use Rattle.pg_expr.specs.View.{cond, conds}
+use Rattle.pg_expr.specs.work.View.{cond, conds}
 use Rattle.eq_classes.specs.Classes.{listed}
 use Rattle.sql_lex.specs.declared.tokens.Token.{Token}
 use Rattle.sql_grammar.specs.Terminals.{Terminal, t_key}
 use Rattle.sql_grammar.specs.declared.class.Word.TheVariants.{Where as WhereKey}
 use Rattle.sql_grammar.specs.Syntax.{Expr, Where, no_where, where_expr}
-use Rattle.sql_grammar.specs.Unique.{ends_expr}
+use Rattle.sql_grammar.specs.work.Unique.{ends_expr}
 use Rattle.sql_grammar.specs.Words.{words_of_expr, words_of_where}
-use Rattle.expr_reader.specs.Reading.{BeginsNot}
+use Rattle.expr_reader.specs.work.Reading.{BeginsNot}
 use Rattle.expr_reader.specs.Conditions.{meaning_of_expr, next}
-use Rattle.expr_reader.specs.Reads.{Reads}
+use Rattle.expr_reader.specs.work.Reads.{Reads}
 use Rattle.expr_reader.specs.Scope.{Scope}
 use Rattle.query_reader.specs.Binding.{conjuncts_written}
 use Rattle.query_reader.specs.From.{conjuncts_of_expr}
-use Rattle.query_reader.specs.Ends.{begins_where, ends_where}
+use Rattle.query_reader.specs.work.Ends.{begins_where, ends_where}
 use Rattle.query_reader.proofs.ConjunctLemmas.{listed-as}
 
 -- the conditions that expressions stand for

@@ -7,10 +7,10 @@ use Rattle.sql_grammar.specs.declared.offered.TheConstants.{READS_WINDOW}
 use Rattle.sql_grammar.specs.Terminals.{Terminal, Said, t_key, t_number}
 use Rattle.sql_grammar.specs.Syntax.{IsOffered, LimitTree, no_limit, most_rows, Offset, no_offset, skipped_rows}
 use Rattle.sql_grammar.specs.Words.{words_of_limit, words_of_offset}
-use Rattle.expr_reader.specs.Reading.{BeginsNot}
+use Rattle.expr_reader.specs.work.Reading.{BeginsNot}
 use Rattle.expr_reader.specs.Conditions.{next}
 use Rattle.expr_reader.proofs.StepLemmas.{stop}
-use Rattle.query_reader.specs.Ends.{ends_limit, ends_window}
+use Rattle.query_reader.specs.work.Ends.{ends_limit, ends_window}
 use Rattle.query_reader.specs.Windows.{most_of, skipped_of}
 
 -- LIMIT is next: its number

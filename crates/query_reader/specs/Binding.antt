@@ -13,14 +13,13 @@ use Rattle.pg_expr.specs.Columns.{atom_count_of}
 use Rattle.pg_expr.specs.Cond.{Cond, conds_of}
 use Rattle.catalog.specs.Contents.{Contents}
 use Rattle.catalog.specs.Range.{Range, type_in}
-use Rattle.eq_classes.specs.Classes.{Premises, conjuncts_in}
+use Rattle.eq_classes.specs.Classes.{conjuncts_in}
 use Rattle.eq_classes.specs.Clauses.{ClassTable}
 use Rattle.eq_classes.specs.declared.order.OrderItem.{OrderItem}
 use Rattle.sql_lex.specs.declared.tokens.Token.{Token}
 use Rattle.sql_grammar.specs.Faults.{fault_at}
 use Rattle.sql_grammar.specs.FromParts.{groups_after}
 use Rattle.sql_grammar.specs.Syntax.{Group, Where, no_where, where_expr, select_from, OrderBy, WindowTree, WindowedSelect, windowed_select, OrderedSelect, ordered_select}
-use Rattle.expr_reader.specs.declared.cursor.Spelled.{Spelled}
 use Rattle.expr_reader.specs.Conditions.{next, the_column}
 use Rattle.expr_reader.specs.Scope.{Scope, columns_in_scope, look_up, under}
 use Rattle.sql_query.specs.Queries.{Query}
@@ -30,7 +29,7 @@ use Rattle.query_reader.specs.declared.written.Item.TheVariants.{Every, EveryOf,
 use Rattle.query_reader.specs.From.{Joined, conjuncts_of_expr, nothing_joined, with_groups}
 use Rattle.query_reader.specs.Named.{columns_in_all}
 use Rattle.query_reader.specs.Order.{order_items}
-use Rattle.query_reader.specs.Scope.{Sight, scope_of}
+use Rattle.query_reader.specs.Scope.{scope_of}
 use Rattle.query_reader.specs.Windows.{window_of}
 use Rattle.query_reader.specs.Written.{item_of, items_of}
 
@@ -68,10 +67,6 @@ abbrev pub found_relation : Scope → Token → Result (List ColRef) Fault
 found_relation [] qualifier = Err (fault_at S2 qualifier)
 found_relation (v ∷ scope) qualifier = Ok (columns_in_scope (v ∷ scope))
 
--- the columns under an alias that was read
-abbrev pub columns_under : Scope → Spelled → Result (List ColRef) Fault
-columns_under scope qualifier = found_relation (under qualifier.bytes scope) qualifier.token
-
 -- the columns that an item shows
 abbrev pub item_columns : Scope → Item → Result (List ColRef) Fault
 item_columns scope Every = Ok (columns_in_scope scope)
@@ -99,10 +94,6 @@ conjuncts_written scope type_of (where_expr _ e) = conjuncts_of_expr scope type_
 -- their atoms
 abbrev pub past_limit : List Cond → Option Limit
 past_limit ws = cond (nat_lt MOST_CONJUNCTS (length (conjuncts_in ws))) (Some Conjuncts) (cond (nat_lt MOST_ATOMS (atom_count_of (conds_of ws))) (Some Atoms) None)
-
--- what the classes of conjuncts as written and of an order are made of
-abbrev pub premises_of : Sight → List OrderItem → List Cond → Premises
-premises_of s order ws = record { conjuncts = conjuncts_in ws; order = order; type_of = type_in s.contents s.range }
 
 -- a limit that is passed is an error at the statement's first token
 abbrev pub limited : {A : Type 0} → Token → Option Limit → A → Result A Fault

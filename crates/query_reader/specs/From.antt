@@ -1,7 +1,7 @@
 -- What FROM means: its relations from the left, and the conditions of its joins, each bound right behind its relation
 -- (PostgreSQL manual, chapter Queries, The FROM Clause, and SELECT, FROM Clause; codes: appendix Error Codes; the limit is
 -- own).
-use Rattle.std.specs.Prelude.{◌≤◌, ℕ, Bool, nat_lt, cond, List, [], ◌∷◌, ◌++◌, length, All, Option, Some, None, Result, Ok, Err}
+use Rattle.std.specs.Prelude.{ℕ, Bool, nat_lt, cond, List, [], ◌∷◌, ◌++◌, length, Option, Some, None, Result, Ok, Err}
 use Rattle.std.specs.List.{list_any}
 use Rattle.std.specs.Str.{bytes_eq}
 use Rattle.pg_base.specs.declared.numbers.TableNo.{TableNo}
@@ -9,13 +9,12 @@ use Rattle.pg_base.specs.declared.faults.Code.TheVariants.{S2, S7, S15}
 use Rattle.pg_base.specs.declared.faults.Fault.{Fault}
 use Rattle.pg_base.specs.declared.faults.Limit.TheVariants.{Relations}
 use Rattle.pg_base.specs.declared.limits.TheConstants.{MOST_RELATIONS}
-use Rattle.pg_base.specs.Names.{AreDistinct, IsName}
 use Rattle.pg_value.specs.declared.value.SqlType.{SqlType}
 use Rattle.pg_expr.specs.declared.operand.ColRef.{ColRef}
 use Rattle.pg_expr.specs.Cond.{Cond}
 use Rattle.pg_expr.specs.Conjuncts.{conjuncts_of}
-use Rattle.catalog.specs.Contents.{Contents, IsTable, IsLawfulTable, table_at}
-use Rattle.catalog.specs.Range.{Range, aliases, type_in}
+use Rattle.catalog.specs.Contents.{Contents}
+use Rattle.catalog.specs.Range.{Range, type_in}
 use Rattle.catalog.specs.Tables.{table_named}
 use Rattle.eq_classes.specs.Classes.{listed}
 use Rattle.sql_grammar.specs.Faults.{fault_at}
@@ -36,17 +35,6 @@ pub record Joined : Type 0 where
 -- nothing is named yet
 abbrev pub nothing_joined : Contents → Joined
 nothing_joined c = record { contents = c; range = []; conjuncts = [] }
-
--- relations that FROM may have named: at most as many as a query has, tables of the catalogue, and no two under the same name
-pub record AreRelations (c : Contents) (range : Range) : Type 0 where
-  pub few : length range ≤ MOST_RELATIONS
-  pub tables : All (λ r. IsTable c r.0) range
-  pub lawful : All (λ r. IsLawfulTable (table_at c r.0)) range
-  pub distinct : AreDistinct (aliases range)
-
--- the relations are under names
-abbrev pub HaveNames : Range → Type 0
-HaveNames range = All (λ r. IsName r.1) range
 
 -- the conjuncts of a condition as written: the parts of an AND, else the condition itself
 abbrev pub conjuncts_of_expr : Scope → (ColRef → SqlType) → Expr → Result (List Cond) Fault

@@ -1,15 +1,10 @@
 pub mod Written
-pub mod Ends
-pub mod Joins
 pub mod Scope
 pub mod From
-pub mod Conveys
 pub mod Named
 pub mod Order
 pub mod Windows
 pub mod Binding
-pub mod Adds
-pub mod Parts
 pub mod Select
-pub mod Reads
 pub mod Wanted
+pub mod work

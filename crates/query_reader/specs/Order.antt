@@ -24,10 +24,6 @@ abbrev pub first_among : Scope → Found → Found
 first_among [] elsewhere = elsewhere
 first_among (v ∷ scope) elsewhere = the_one (v ∷ scope)
 
--- what a name alone means: it is sought in the select list first
-abbrev pub ordered_name : Scope → List ColRef → List ℕ → Found
-ordered_name scope select name = first_among (shown_of_name scope select name) (look_up scope None name)
-
 -- the column of an item: a bare name is sought in the select list first
 abbrev pub order_column : Scope → List ColRef → Col → Result ColRef Fault
 order_column scope select (bare n) = the_column (first_among (shown_of_name scope select (bytes_of n)) (look_up scope None (bytes_of n))) (token_of n) (token_of n)

@@ -1,5 +1,5 @@
 -- What the words before a SELECT ask of it. Own; EXPLAIN is PostgreSQL's (manual, EXPLAIN).
-use Rattle.std.specs.Prelude.{ℕ, List, ◌∷◌}
+use Rattle.std.specs.Prelude.{List, ◌∷◌}
 use Rattle.sql_grammar.specs.declared.class.Free.TheVariants.{Explain}
 use Rattle.sql_grammar.specs.declared.class.Symbol.TheVariants.{Open}
 use Rattle.sql_grammar.specs.Terminals.{Terminal, free, t_mark, t_name}
@@ -11,9 +11,3 @@ abbrev pub wanted_by : List Terminal → Wanted
 wanted_by (t_name (free Explain _) ∷ t_mark Open _ ∷ _) = Table
 wanted_by (t_name (free Explain _) ∷ _) = Plan
 wanted_by _ = Rows
-
--- how many words ask so
-abbrev pub words_by : Wanted → ℕ
-words_by Rows = 0
-words_by Plan = 1
-words_by Table = 4

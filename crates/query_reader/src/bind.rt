@@ -1,15 +1,15 @@
 //! Binding the names of a SELECT to a catalogue.
 
 ghost use Rattle.std.specs.Prelude.{◌≡◌, ◌<◌, ◌∷◌, length, IfOk, map};
-ghost use Rattle.pg_expr.specs.View.{cond};
+ghost use Rattle.pg_expr.specs.work.View.{cond};
 ghost use Rattle.sql_grammar.specs.FromParts.{groups_after};
 ghost use Rattle.expr_reader.specs.Conditions.{next, the_column};
-ghost use Rattle.query_reader.specs.Adds.{Adds, AddsAll};
+ghost use Rattle.query_reader.specs.work.Adds.{Adds, AddsAll};
 ghost use Rattle.query_reader.specs.Binding.{alone, bound_from, bound_over, item_columns, list_columns, named_in};
-ghost use Rattle.query_reader.specs.Scope.{visible_in};
-ghost use Rattle.query_reader.specs.Select.{IsBoundByItself, IsBoundAs};
-ghost use Rattle.query_reader.specs.From.{HaveNames};
-ghost use Rattle.query_reader.specs.Reads.{StandsAfterFrom, IfAfterFrom, StandsFrom, IfFrom};
+ghost use Rattle.query_reader.specs.work.Scope.{visible_in};
+ghost use Rattle.query_reader.specs.work.Select.{IsBoundByItself, IsBoundAs};
+ghost use Rattle.query_reader.specs.work.From.{HaveNames};
+ghost use Rattle.query_reader.specs.work.Reads.{StandsAfterFrom, IfAfterFrom, StandsFrom, IfFrom};
 
 use crate::conditions::{classes_within, written_conjuncts};
 use crate::named;

@@ -2,17 +2,18 @@
 
 ghost use Rattle.std.specs.Prelude.{◌≡◌, ◌≤◌, ◌-◌, ◌^◌, All, IfOk, length, map, min};
 ghost use Rattle.pg_expr.specs.Columns.{atom_count_of};
-ghost use Rattle.pg_expr.specs.View.{cond, conds};
+ghost use Rattle.pg_expr.specs.work.View.{cond, conds};
 ghost use Rattle.eq_classes.specs.Classes.{conjuncts_in};
 ghost use Rattle.eq_classes.specs.Holding.{IsClassTable};
-ghost use Rattle.sql_grammar.specs.Unique.{ends_expr};
+ghost use Rattle.sql_grammar.specs.work.Unique.{ends_expr};
 ghost use Rattle.sql_grammar.specs.Words.{words_of_expr, words_of_where};
-ghost use Rattle.query_reader.specs.Binding.{limited, past_limit, premises_of};
-ghost use Rattle.query_reader.specs.Ends.{ends_where};
-ghost use Rattle.query_reader.specs.Scope.{visible_in, types_in, AreConditionsOver, IsSeenColumn};
-ghost use Rattle.query_reader.specs.Conveys.{Conveys};
-ghost use Rattle.expr_reader.specs.Reading.{StandsFirst};
-ghost use Rattle.query_reader.specs.Reads.{ReadsConjuncts, ReadsWhere};
+ghost use Rattle.query_reader.specs.Binding.{limited, past_limit};
+ghost use Rattle.query_reader.specs.work.Binding.{premises_of};
+ghost use Rattle.query_reader.specs.work.Ends.{ends_where};
+ghost use Rattle.query_reader.specs.work.Scope.{visible_in, types_in, AreConditionsOver, IsSeenColumn};
+ghost use Rattle.query_reader.specs.work.Conveys.{Conveys};
+ghost use Rattle.expr_reader.specs.work.Reading.{StandsFirst};
+ghost use Rattle.query_reader.specs.work.Reads.{ReadsConjuncts, ReadsWhere};
 
 use crate::relations::Relations;
 use eq_classes::{Classes, OrderItem};

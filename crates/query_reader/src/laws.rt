@@ -2,11 +2,13 @@
 
 ghost use Rattle.std.specs.Prelude.{◌≡◌, ◌⊎◌, ℕ, List, Some, true};
 ghost use Rattle.sql_lex.specs.declared.tokens.Token.{Token};
-ghost use Rattle.sql_grammar.specs.Faults.{terminals, AreWithinLimits, EndsAt, IsWhole, IsWindowed};
+ghost use Rattle.sql_grammar.specs.Faults.{terminals, AreWithinLimits};
+ghost use Rattle.sql_grammar.specs.work.Faults.{EndsAt, IsWhole, IsWindowed};
 ghost use Rattle.sql_grammar.specs.Spelled.{IsSpelled};
 ghost use Rattle.sql_grammar.specs.Syntax.{Statement, WindowedSelect};
-ghost use Rattle.query_reader.specs.Parts.{HavePart, IsSelectAt, select_of};
-ghost use Rattle.query_reader.specs.Select.{AreGrouped, AreNoOther, AreSelect, begins_query, words_before};
+ghost use Rattle.query_reader.specs.work.Parts.{HavePart, IsSelectAt, select_of};
+ghost use Rattle.query_reader.specs.Select.{words_before};
+ghost use Rattle.query_reader.specs.work.Select.{AreGrouped, AreNoOther, AreSelect, begins_query};
 
 /// A statement that begins with SELECT or EXPLAIN is of no other kind than a SELECT.
 pub fn selects_are_no_other()

@@ -1,7 +1,7 @@
 //! The columns that conditions name.
 
 ghost use Rattle.std.specs.Prelude.{◌≡◌, ◌++◌, IfOk};
-ghost use Rattle.pg_expr.specs.View.{cond, conds};
+ghost use Rattle.pg_expr.specs.work.View.{cond, conds};
 ghost use Rattle.query_reader.specs.Named.{columns_in, columns_in_all};
 ghost use Rattle.eq_classes.specs.Grouping.{operand_columns};
 

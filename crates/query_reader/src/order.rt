@@ -2,11 +2,11 @@
 
 ghost use Rattle.std.specs.Prelude.{◌≤◌, All, IfOk, OnOk, length};
 ghost use Rattle.sql_grammar.specs.Words.{words_of_col, words_of_ordering, words_of_orderings, words_of_order};
-ghost use Rattle.sql_grammar.specs.Unique.{ends_operand};
-ghost use Rattle.query_reader.specs.Ends.{ends_order, ends_ordering};
-ghost use Rattle.query_reader.specs.Scope.{visible_in, IsSeenColumn};
-ghost use Rattle.expr_reader.specs.Reading.{StandsFirst, StandsListed};
-ghost use Rattle.query_reader.specs.Reads.{ReadsOrderColumn, ReadsOrdering, ReadsOrderings, ReadsOrderBy};
+ghost use Rattle.sql_grammar.specs.work.Unique.{ends_operand};
+ghost use Rattle.query_reader.specs.work.Ends.{ends_order, ends_ordering};
+ghost use Rattle.query_reader.specs.work.Scope.{visible_in, IsSeenColumn};
+ghost use Rattle.expr_reader.specs.work.Reading.{StandsFirst, StandsListed};
+ghost use Rattle.query_reader.specs.work.Reads.{ReadsOrderColumn, ReadsOrdering, ReadsOrderings, ReadsOrderBy};
 
 use crate::relations::Relations;
 use eq_classes::OrderItem;

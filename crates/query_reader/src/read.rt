@@ -5,11 +5,12 @@ ghost use Rattle.std.specs.Prelude.{◌≡◌, List, ◌∷◌, ◌≤◌, lengt
 ghost use Rattle.sql_grammar.specs.Terminals.{Terminal, Ident, t_key, t_name};
 ghost use Rattle.sql_grammar.specs.Words.{words_of_output, words_of_alias, words_of_joins, words_of_relation};
 ghost use Rattle.sql_grammar.specs.declared.class.Word.TheVariants.{From};
-ghost use Rattle.expr_reader.specs.Reading.{spelled, StandsFirst, IfFirst, Yields, YieldsNext, StandsList, IfList};
+ghost use Rattle.expr_reader.specs.Reading.{spelled};
+ghost use Rattle.expr_reader.specs.work.Reading.{StandsFirst, IfFirst, Yields, YieldsNext, StandsList, IfList};
 ghost use Rattle.query_reader.specs.Written.{item_of, items_of, alias_of as alias_value, source_of};
-ghost use Rattle.query_reader.specs.Ends.{ends_item, ends_alias, ends_group};
-ghost use Rattle.query_reader.specs.Joins.{IsNext};
-ghost use Rattle.query_reader.specs.Reads.{words_of_list, StandsAfterName, YieldsAfterName};
+ghost use Rattle.query_reader.specs.work.Ends.{ends_item, ends_alias, ends_group};
+ghost use Rattle.query_reader.specs.work.Joins.{IsNext};
+ghost use Rattle.query_reader.specs.work.Reads.{words_of_list, StandsAfterName, YieldsAfterName};
 
 use crate::written::{Item, Joining, Source};
 use expr_reader::{Cursor, Spelled};

@@ -2,13 +2,14 @@
 
 ghost use Rattle.std.specs.Prelude.{◌≡◌, ◌<◌, ℕ, List, [], length, All, Ok, MatchOption, None, Some};
 ghost use Rattle.catalog.specs.Contents.{IsTable, IsLawfulTable, table_at};
-ghost use Rattle.path_cost.specs.Columns.{is_column_in};
+ghost use Rattle.path_cost.specs.work.Columns.{is_column_in};
 ghost use Rattle.expr_reader.specs.Scope.{Visible, columns_in_scope, look_up, of_name, the_one, under};
-ghost use Rattle.query_reader.specs.Adds.{Adds};
-ghost use Rattle.query_reader.specs.From.{AreRelations};
-ghost use Rattle.query_reader.specs.Order.{shown_of_name, ordered_name};
-ghost use Rattle.query_reader.specs.Scope.{also as also_meant, own_columns, visible_in, IsSeenColumn, IsRelationUnder, IsOnlyColumn, numbered_columns};
-ghost use Rattle.query_reader.specs.Binding.{columns_under};
+ghost use Rattle.query_reader.specs.work.Adds.{Adds};
+ghost use Rattle.query_reader.specs.work.From.{AreRelations};
+ghost use Rattle.query_reader.specs.Order.{shown_of_name};
+ghost use Rattle.query_reader.specs.work.Order.{ordered_name};
+ghost use Rattle.query_reader.specs.work.Scope.{also as also_meant, own_columns, visible_in, IsSeenColumn, IsRelationUnder, IsOnlyColumn, numbered_columns};
+ghost use Rattle.query_reader.specs.work.Binding.{columns_under};
 
 use catalog::Catalog;
 use expr_reader::{ColumnPlaces, Found, Scope, Spelled};
@@ -31,10 +32,10 @@ pub struct Relations<'a> {
 impl<'a> Model for Relations<'a> {
     ghost use Rattle.std.specs.Coded.{codes};
     ghost use Rattle.std.specs.Prelude.{◌≡◌, ◌≤◌, length};
-    ghost use Rattle.pg_expr.specs.CondCode.{cond_code};
+    ghost use Rattle.pg_expr.specs.work.CondCode.{cond_code};
     ghost use Rattle.pg_value.specs.declared.value.Value.TheVariants.{Null};
-    ghost use Rattle.query_reader.specs.From.{AreRelations};
-    ghost use Rattle.query_reader.specs.Scope.{Sight};
+    ghost use Rattle.query_reader.specs.work.From.{AreRelations};
+    ghost use Rattle.query_reader.specs.work.Scope.{Sight};
 
     ghost Value = { Sight };
 
@@ -48,7 +49,7 @@ impl<'a> Model for Relations<'a> {
 /// The names under which the visible columns are known.
 impl<'a> Scope for Relations<'a> {
     ghost use Rattle.catalog.specs.Range.{type_in};
-    ghost use Rattle.query_reader.specs.Scope.{visible_in};
+    ghost use Rattle.query_reader.specs.work.Scope.{visible_in};
 
     ghost visible = { λ r. visible_in r };
 
@@ -71,7 +72,7 @@ impl<'a> Scope for Relations<'a> {
 impl<'a> Binding for Relations<'a> {
     ghost use Rattle.pg_value.specs.declared.value.Value.TheVariants.{Null};
     ghost use Rattle.catalog.specs.Range.{type_in};
-    ghost use Rattle.path_cost.specs.Columns.{is_column_in};
+    ghost use Rattle.path_cost.specs.work.Columns.{is_column_in};
 
     ghost binds = { λ r x. is_column_in r.contents r.range x };
 

@@ -2,12 +2,13 @@
 
 ghost use Rattle.std.specs.Prelude.{◌≡◌, ℕ, ◌^◌, ◌<◌, ◌≤◌, All, drop, length, true, false, IfOk, MatchOption};
 ghost use Rattle.sql_lex.specs.Words.{AreWords};
-ghost use Rattle.sql_grammar.specs.Faults.{terminals, IsWhole};
+ghost use Rattle.sql_grammar.specs.Faults.{terminals};
+ghost use Rattle.sql_grammar.specs.work.Faults.{IsWhole};
 ghost use Rattle.eq_classes.specs.Holding.{IsClassTable};
-ghost use Rattle.expr_reader.specs.Parted.{HasParts};
+ghost use Rattle.expr_reader.specs.work.Parted.{HasParts};
 ghost use Rattle.sql_query.specs.WellBound.{IsWellBound, given_of};
-ghost use Rattle.query_reader.specs.Parts.{HavePart, HaveSelectAt};
-ghost use Rattle.query_reader.specs.Select.{AreGrouped, IsBoundByItself, IsGrammatical, IsNoSelectAt, begins_select, is_explained, BindsPart, BindsSelect};
+ghost use Rattle.query_reader.specs.work.Parts.{HavePart, HaveSelectAt};
+ghost use Rattle.query_reader.specs.work.Select.{AreGrouped, IsBoundByItself, IsGrammatical, IsNoSelectAt, begins_select, is_explained, BindsPart, BindsSelect};
 
 use crate::bind::bind;
 use crate::read::list;

@@ -3,24 +3,24 @@
 ghost use Rattle.std.specs.Prelude.{◌≡◌, ◌++◌, ◌∷◌, ◌⊎◌, true, false, length, map, nat_lt, All, MatchResult, IfOk, None, Some};
 ghost use Rattle.pg_base.specs.declared.faults.Code.TheVariants.{S2, S15};
 ghost use Rattle.pg_base.specs.declared.faults.Limit.TheVariants.{Relations as RelationsLimit};
-ghost use Rattle.pg_expr.specs.View.{cond};
-ghost use Rattle.path_cost.specs.Columns.{IsOver};
+ghost use Rattle.pg_expr.specs.work.View.{cond};
+ghost use Rattle.path_cost.specs.work.Columns.{IsOver};
 ghost use Rattle.catalog.specs.Range.{type_in};
 ghost use Rattle.catalog.specs.Contents.{IsTable, IsLawfulTable, table_at};
 ghost use Rattle.catalog.specs.Tables.{table_named};
 ghost use Rattle.sql_grammar.specs.Faults.{fault_at as fault_at_token};
 ghost use Rattle.sql_grammar.specs.FromParts.{groups_after};
-ghost use Rattle.sql_grammar.specs.Unique.{ends_expr};
+ghost use Rattle.sql_grammar.specs.work.Unique.{ends_expr};
 ghost use Rattle.sql_grammar.specs.Words.{words_of_expr, words_of_group, words_of_groups, words_of_joins, words_of_relation};
 ghost use Rattle.expr_reader.specs.Conditions.{next};
-ghost use Rattle.query_reader.specs.Conveys.{Conveys, ReadsInto};
-ghost use Rattle.query_reader.specs.Ends.{ends_alias, ends_from, ends_group};
+ghost use Rattle.query_reader.specs.work.Conveys.{Conveys, ReadsInto};
+ghost use Rattle.query_reader.specs.work.Ends.{ends_alias, ends_from, ends_group};
 ghost use Rattle.query_reader.specs.From.{alias_or, is_taken as is_taken_in, nothing_joined, under_alias, with_condition, with_group, with_groups, with_join, with_joins, with_relation};
 ghost use Rattle.query_reader.specs.Scope.{scope_after};
 ghost use Rattle.query_reader.specs.Written.{source_of};
-ghost use Rattle.expr_reader.specs.Reading.{StandsFirst, IfFirst, StandsListed, IfListed};
-ghost use Rattle.query_reader.specs.Joins.{StandsJoin, IfJoin, StandsOn, IfOn};
-ghost use Rattle.query_reader.specs.Reads.{ReadsConjuncts};
+ghost use Rattle.expr_reader.specs.work.Reading.{StandsFirst, IfFirst, StandsListed, IfListed};
+ghost use Rattle.query_reader.specs.work.Joins.{StandsJoin, IfJoin, StandsOn, IfOn};
+ghost use Rattle.query_reader.specs.work.Reads.{ReadsConjuncts};
 
 use crate::conditions::conjuncts_next;
 use crate::read::{joining, source};
@@ -51,10 +51,11 @@ pub struct Sources<'a> {
 impl<'a> Model for Sources<'a> {
     ghost use Rattle.std.specs.Coded.{codes};
     ghost use Rattle.std.specs.Prelude.{map, All};
-    ghost use Rattle.pg_expr.specs.CondCode.{cond_code};
-    ghost use Rattle.pg_expr.specs.View.{cond};
-    ghost use Rattle.path_cost.specs.Columns.{IsOver};
-    ghost use Rattle.query_reader.specs.From.{AreRelations, Joined};
+    ghost use Rattle.pg_expr.specs.work.CondCode.{cond_code};
+    ghost use Rattle.pg_expr.specs.work.View.{cond};
+    ghost use Rattle.path_cost.specs.work.Columns.{IsOver};
+    ghost use Rattle.query_reader.specs.From.{Joined};
+    ghost use Rattle.query_reader.specs.work.From.{AreRelations};
 
     ghost Value = { Joined };
 

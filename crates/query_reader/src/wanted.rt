@@ -4,6 +4,7 @@ ghost use Rattle.std.specs.Prelude.{◌≡◌, ℕ, ◌^◌, ◌≤◌, length};
 ghost use Rattle.sql_lex.specs.Words.{AreWords};
 ghost use Rattle.sql_grammar.specs.Faults.{terminals};
 ghost use Rattle.query_reader.specs.Wanted as asked;
+ghost use Rattle.query_reader.specs.work.Wanted as asked_work;
 
 use expr_reader::Cursor;
 use sql_grammar::{Free, Symbol};
@@ -39,7 +40,7 @@ pub fn wants(text: &[u8], tokens: &Tokens) -> Wanted
 
 /// How many words stand before a SELECT of which this is asked.
 pub fn words_by(wanted: Wanted) -> u32
-    ensures { result ≡ asked.words_by wanted }
+    ensures { result ≡ asked_work.words_by wanted }
 {
     match wanted {
         Wanted::Rows => 0,

@@ -3,9 +3,9 @@
 ghost use Rattle.std.specs.Prelude.{◌≡◌, List, ◌∷◌, OnOk};
 ghost use Rattle.sql_grammar.specs.Terminals.{Terminal, Said, t_number};
 ghost use Rattle.sql_grammar.specs.Words.{words_of_limit, words_of_offset, words_of_window};
-ghost use Rattle.query_reader.specs.Ends.{ends_limit, ends_window};
+ghost use Rattle.query_reader.specs.work.Ends.{ends_limit, ends_window};
 ghost use Rattle.query_reader.specs.Windows.{most_of, rows_written, skipped_of, window_by, window_of};
-ghost use Rattle.expr_reader.specs.Reading.{StandsFirst, IfFirst, Yields, YieldsNext};
+ghost use Rattle.expr_reader.specs.work.Reading.{StandsFirst, IfFirst, Yields, YieldsNext};
 
 use expr_reader::Cursor;
 use pg_base::{Code, Fault};

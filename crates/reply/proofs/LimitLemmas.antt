@@ -5,12 +5,13 @@ use Rattle.std.proofs.Math.Numerals.{add-one}
 use Rattle.std.proofs.lemmas.Bool.Decides.{nat_tests}
 use Rattle.std.proofs.lemmas.List.{drop-drop, length-drop}
 use Rattle.std.proofs.lemmas.List.Elements.{filter-append}
-use Rattle.executor.specs.scan_exec_Coming.{Coming, behind, is_given, owed}
+use Rattle.executor.specs.scan_exec_Coming.{Coming, is_given, owed}
+use Rattle.executor.specs.scan_exec_work_Coming.{behind}
 use Rattle.sql_query.specs.Meaning.{up_to, windowed}
 use Rattle.sql_query.specs.Tuples.{Tuple}
 use Rattle.sql_query.specs.declared.window.Window.{Window}
-use Rattle.executor.specs.Reading.{Reading}
-use Rattle.reply.specs.Drawing.{Draws, drawn_by, past}
+use Rattle.executor.specs.work.Reading.{Reading}
+use Rattle.reply.specs.work.Drawing.{Draws, drawn_by, past}
 use Rattle.reply.specs.Effort.{HasRisen, exactly, fetched_by, fetched_to, last_by, limit_in, looked_by, offset_in, through}
 
 module _ {A : Type 0} (test : A → Bool) where

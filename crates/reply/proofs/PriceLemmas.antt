@@ -2,15 +2,16 @@
 use Rattle.std.proofs.Common.{◌≡◌, ℕ, sym, ◌∙◌, ap, ap₂, subst, arith, Option, Some, None}
 use Rattle.std.proofs.Math.Bool.{or_self}
 use Rattle.catalog.specs.Contents.{Contents}
-use Rattle.cost_rules.specs.Costs.{IsEstimate, capped_pair}
+use Rattle.cost_rules.specs.work.Costs.{IsEstimate, capped_pair}
 use Rattle.cost_rules.specs.declared.pair.Pair.{Pair}
 use Rattle.path_cost.specs.Estimates.{set_rows}
 use Rattle.sql_query.specs.Queries.{Query, all_of_query}
 use Rattle.sql_query.specs.declared.window.Window.{Window}
 use Rattle.explain.specs.Texts.{rows_limit_text, line_by, window_line}
-use Rattle.plan_tree.specs.Costs.{HaveRows, asked, cost, price, query_rows, rows_given}
+use Rattle.plan_tree.specs.Costs.{asked, cost, price, query_rows, rows_given}
+use Rattle.plan_tree.specs.work.Costs.{HaveRows}
 use Rattle.plan_tree.specs.Least.{IsAdmissible}
-use Rattle.plan_tree.specs.Paths.{IsFinishedPath, Path, kept_cost}
+use Rattle.plan_tree.specs.work.Paths.{IsFinishedPath, Path, kept_cost}
 use Rattle.plan_tree.specs.Plans.{given_scan, nest, set_of}
 use Rattle.plan_tree.proofs.BoundLemmas.{startup-most}
 use Rattle.plan_tree.proofs.LikeLemmas.{given-like}

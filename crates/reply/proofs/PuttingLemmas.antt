@@ -5,7 +5,7 @@ use Rattle.std.proofs.Math.Seq.{take-append-add}
 use Rattle.std.specs.Io.KnownBytes.{Appends}
 use Rattle.pg_base.specs.Writing.{AppendsPrefix}
 use Rattle.pg_base.proofs.Bytes.{Appends-more}
-use Rattle.reply.specs.Putting.{HasPut, Puts}
+use Rattle.reply.specs.work.Putting.{HasPut, Puts}
 use Rattle.pg_base.proofs.OptionLemmas.{appends-none}
 use Rattle.reply_text.proofs.PieceLaws.{prefix-longer as prefix-of}
 

@@ -14,12 +14,12 @@ use Rattle.plan_tree.specs.Plans.{Plan}
 use Rattle.executor.specs.scan_exec_Coming.{Coming, coming}
 use Rattle.executor.specs.Opening.{opening_fetches}
 use Rattle.executor.specs.plan_laws_Closed.{is_scan}
-use Rattle.executor.specs.Reading.{Reading}
+use Rattle.executor.specs.work.Reading.{Reading}
 use Rattle.explain.specs.Texts.{explained_text}
 use Rattle.reply.specs.Answers.{result_text, tuples_of}
 use Rattle.reply.specs.Effort.{HasRisen, Rise, answer_fetches, answer_looks, exactly, fetched_by, last_in, looked_by}
 use Rattle.reply.specs.Replies.{HasBegun, HasReplied, IsAnswerTo, IsExplanationOf, Reply, traces}
-use Rattle.reply.specs.Stops.{stop_by}
+use Rattle.reply.specs.work.Stops.{stop_by}
 use Rattle.reply.specs.declared.stop.Broken.{Broken}
 use Rattle.reply.specs.declared.stop.Broken.TheVariants.{Write, Memory}
 use Rattle.reply.specs.declared.stop.Stop.{Stop}

@@ -13,17 +13,17 @@ use Rattle.pg_expr.specs.declared.operand.ColRef.{ColRef}
 use Rattle.heap.specs.Stored.{IsRowOf, IsColumnValue, Stored, Values}
 use Rattle.catalog.specs.Contents.{Contents, IsTable, no_table, table_at}
 use Rattle.catalog.specs.Range.{Range, relation_at}
-use Rattle.sort_rows.specs.Rows.{relation}
+use Rattle.sort_rows.specs.work.Rows.{relation}
 use Rattle.sql_query.specs.Meaning.{shown}
 use Rattle.sql_query.specs.Queries.{Query, width}
 use Rattle.sql_query.specs.Tuples.{Tuple, row_at, row_of, rows_of_relation, value_at}
 use Rattle.sql_query.specs.WellBound.{IsColumnOf, IsWellBound}
 use Rattle.sql_query.specs.Worlds.{Holds, stored_at, nothing_stored, world}
-use Rattle.executor.specs.store_Kept.{IsStoreOf, Kept}
+use Rattle.executor.specs.store_work_Kept.{IsStoreOf, Kept}
 use Rattle.pg_base.proofs.ListLemmas.{zip-long as zip_long}
 use Rattle.pg_base.proofs.ListLemmas.{zip-at as zip_at}
-use Rattle.executor.specs.Numbers.{IsTupleOf, numbers}
-use Rattle.reply.specs.Showing.{HasColumn, cell_of, rows_at}
+use Rattle.executor.specs.work.Numbers.{IsTupleOf, numbers}
+use Rattle.reply.specs.work.Showing.{HasColumn, cell_of, rows_at}
 
 abbrev pub now : Bor Values → Values
 now r = r.now

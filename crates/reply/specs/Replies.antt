@@ -1,5 +1,5 @@
 -- Replies to queries, and what a call that writes one changes and leaves. Own.
-use Rattle.std.specs.Prelude.{ℕ, ◌≡◌, ◌⊎◌, ◌+◌, ◌≤◌, List}
+use Rattle.std.specs.Prelude.{ℕ, ◌≡◌, ◌+◌, ◌≤◌, List}
 use Rattle.std.specs.declared.option.Option.{Option}
 use Rattle.std.specs.Io.KnownBytes.{Appends}
 use Rattle.pg_base.specs.Writing.{AppendsPrefix}
@@ -9,8 +9,6 @@ use Rattle.sql_query.specs.Worlds.{World}
 use Rattle.plan_tree.specs.Plans.{Plan}
 use Rattle.reply.specs.Answers.{IsAnswer, IsExplanation}
 use Rattle.reply.specs.Effort.{HasRisen, Rise, answer_fetches, answer_looks, exactly}
-use Rattle.reply.specs.declared.stop.Stop.{Stop}
-use Rattle.reply.specs.declared.stop.Stop.TheVariants.{NoPlan, Write, Memory}
 
 -- the bytes printed, the rows fetched, and the most looks at entries and at rows already found
 pub record Reply : Type 0 where
@@ -58,21 +56,3 @@ pub record HasBegun (IsReply : Reply → Type 0) (old new : Traces) : Type 0 whe
   pub gained : AppendsPrefix old.held new.held reply.bytes
   pub fetched : new.fetched ≤ old.fetched + reply.fetched.most
   pub looked : new.looked ≤ old.looked + reply.looked
-
--- what a stop leaves: without a plan, all as it was; a failed out, a reply begun; out of memory, one or the other
-abbrev pub Leaves : Stop → (Reply → Type 0) → Traces → Traces → Type 0
-Leaves NoPlan IsReply old new = new ≡ old
-Leaves Write IsReply old new = HasBegun IsReply old new
-Leaves Memory IsReply old new = (new ≡ old) ⊎ HasBegun IsReply old new
-
--- out gained a reply of a kind that fetches nothing and looks at nothing
-abbrev pub HasPrinted : (Reply → Type 0) → Option (List ℕ) → Option (List ℕ) → Type 0
-HasPrinted IsReply old new = HasReplied IsReply (traces old 0 0) (traces new 0 0)
-
--- out gained some first bytes of such a reply
-abbrev pub HasBegunPrinting : (Reply → Type 0) → Option (List ℕ) → Option (List ℕ) → Type 0
-HasBegunPrinting IsReply old new = HasBegun IsReply (traces old 0 0) (traces new 0 0)
-
--- what a stop leaves of such a reply
-abbrev pub LeavesPrinted : Stop → (Reply → Type 0) → Option (List ℕ) → Option (List ℕ) → Type 0
-LeavesPrinted stop IsReply old new = Leaves stop IsReply (traces old 0 0) (traces new 0 0)

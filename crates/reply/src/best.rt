@@ -3,8 +3,8 @@
 ghost use Rattle.std.specs.Prelude.{◌≡◌, ◌≢◌, IfErr, IfOk};
 ghost use Rattle.sql_query.specs.WellBound.{IsWellBound};
 ghost use Rattle.plan_tree.specs.Least.{IsBestPlan, HasNoPlan};
-ghost use Rattle.plan_tree.specs.Paths.{IsFinishedPath};
-ghost use Rattle.plan_tree.specs.Views.{path};
+ghost use Rattle.plan_tree.specs.work.Paths.{IsFinishedPath};
+ghost use Rattle.plan_tree.specs.work.Views.{path};
 
 use crate::stop::Stop;
 use catalog::Catalog;

@@ -2,7 +2,7 @@
 //! src/backend/executor/nodeLimit.c).
 
 ghost use Rattle.std.specs.Prelude.{◌≡◌, ◌+◌, ◌≤◌, OnOk};
-ghost use Rattle.reply.specs.Drawing.{Draws, is_let};
+ghost use Rattle.reply.specs.work.Drawing.{Draws, is_let};
 ghost use Rattle.reply.specs.Effort.{limit_in, offset_in};
 
 use executor::Rows;

@@ -3,7 +3,8 @@
 ghost use Rattle.std.specs.Prelude.{◌≡◌, ◌++◌, IfOk, OnOk, OnErr};
 ghost use Rattle.std.specs.Io.KnownBytes.{Appends};
 ghost use Rattle.pg_base.specs.Writing.{AppendsPrefix};
-ghost use Rattle.reply.specs.Putting.{Puts, HasWriteCause};
+ghost use Rattle.reply.specs.Putting.{HasWriteCause};
+ghost use Rattle.reply.specs.work.Putting.{Puts};
 ghost use Rattle.reply.specs.declared.stop.Broken.TheVariants.{Write};
 
 use crate::stop::Broken;

@@ -3,8 +3,8 @@
 ghost use Rattle.std.specs.Prelude.{◌≡◌};
 ghost use Rattle.plan_tree.specs.Costs.{price};
 ghost use Rattle.plan_tree.specs.Least.{IsAdmissible};
-ghost use Rattle.plan_tree.specs.Paths.{IsFinishedPath};
-ghost use Rattle.plan_tree.specs.Views.{path};
+ghost use Rattle.plan_tree.specs.work.Paths.{IsFinishedPath};
+ghost use Rattle.plan_tree.specs.work.Views.{path};
 
 use catalog::Catalog;
 use plan_tree::{Path, cost_of, price_of};

@@ -4,12 +4,13 @@ ghost use Rattle.std.specs.Prelude.{◌≡◌, ◌+◌, ◌*◌, ◌≤◌, All,
 ghost use Rattle.reply_text.specs.Texts.{row_line};
 ghost use Rattle.sql_query.specs.Queries.{width};
 ghost use Rattle.plan_tree.specs.Counts.{MOST_READS};
-ghost use Rattle.executor.specs.Numbers.{IsTupleOf, numbers};
-ghost use Rattle.reply.specs.Drawing.{Draws, drawn_behind, drawn_by};
+ghost use Rattle.executor.specs.work.Numbers.{IsTupleOf, numbers};
+ghost use Rattle.reply.specs.work.Drawing.{Draws, drawn_behind, drawn_by};
 ghost use Rattle.reply.specs.Effort.{HasRisen, limit_in, offset_in};
-ghost use Rattle.reply.specs.Putting.{HasWriteCause, Puts};
-ghost use Rattle.reply.specs.Settings.{IsSetting, let_through, line_shown, lines_shown, up_to_limit, window_fetches, window_looks, world_of};
-ghost use Rattle.reply.specs.Showing.{HasColumn, cell_of, rows_at};
+ghost use Rattle.reply.specs.Putting.{HasWriteCause};
+ghost use Rattle.reply.specs.work.Putting.{Puts};
+ghost use Rattle.reply.specs.work.Settings.{IsSetting, let_through, line_shown, lines_shown, up_to_limit, window_fetches, window_looks, world_of};
+ghost use Rattle.reply.specs.work.Showing.{HasColumn, cell_of, rows_at};
 ghost use Rattle.reply.specs.declared.stop.Broken.TheVariants.{Write};
 
 use crate::pass::{is_wanted, offset_of, pass_over};

@@ -3,8 +3,8 @@
 ghost use Rattle.std.specs.Prelude.{◌≡◌, IfOk};
 ghost use Rattle.explain.specs.Texts.{explained_text, window_line};
 ghost use Rattle.plan_tree.specs.Least.{IsAdmissible};
-ghost use Rattle.plan_tree.specs.Paths.{IsFinishedPath};
-ghost use Rattle.plan_tree.specs.Views.{path};
+ghost use Rattle.plan_tree.specs.work.Paths.{IsFinishedPath};
+ghost use Rattle.plan_tree.specs.work.Views.{path};
 ghost use Rattle.sql_query.specs.WellBound.{IsWellBound};
 
 use crate::price::best_price;

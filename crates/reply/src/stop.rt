@@ -53,7 +53,7 @@ impl From<pg_base::Failed> for Broken {
 }
 
 impl From<Broken> for Stop {
-    ghost use Rattle.reply.specs.Stops.{stop_by};
+    ghost use Rattle.reply.specs.work.Stops.{stop_by};
 
     ghost from_gives = { λ broken stop. stop ≡ stop_by broken };
 

@@ -7,7 +7,7 @@ use Rattle.csv.specs.Writing.{default_writer, escaped, field_text, fields_text, 
 use Rattle.csv.proofs.WriteFacts.{row-final}
 use Rattle.pg_value.specs.declared.value.Value.{Value}
 use Rattle.reply_text.specs.Texts.{field_text as text_of_value}
-use Rattle.reply_text.specs.Writers.{row_writer}
+use Rattle.reply_text.specs.work.Writers.{row_writer}
 
 escaped-same : (field : List ℕ) → escaped row_writer field ≡ escaped default_writer field
 unfolding escaped

@@ -1,4 +1,4 @@
 pub mod Texts
-pub mod Writers
 pub mod Tells
 pub mod Lines
+pub mod work

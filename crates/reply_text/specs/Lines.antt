@@ -98,10 +98,6 @@ named_word script f = naming_text (naming_of f.code) (word_at script f)
 abbrev pub fault_text : Contents → List ℕ → Fault → List ℕ
 fault_text c script f = phrase f.code f.rec ++ (named_word script f ++ suffix c f)
 
--- the line of a fault as far as the first words of its text
-abbrev pub line_head : Fault → List ℕ
-line_head f = codes "ERROR " ++ (code_text f.code ++ (codes " at " ++ (decimal f.at ++ (codes ": " ++ phrase f.code f.rec))))
-
 -- the line of a fault, up to its LF
 abbrev pub fault_line : Contents → List ℕ → Fault → List ℕ
 fault_line c script f = codes "ERROR " ++ (code_text f.code ++ (codes " at " ++ (decimal f.at ++ (codes ": " ++ (fault_text c script f ++ codes "\n")))))

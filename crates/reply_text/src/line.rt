@@ -5,7 +5,8 @@ ghost use Rattle.std.specs.Io.KnownBytes.{Appends};
 ghost use Rattle.pg_base.specs.Causes.{HasCause};
 ghost use Rattle.pg_base.specs.Writing.{AppendsPrefix};
 ghost use Rattle.reply_text.specs.Tells.{IsFieldOf};
-ghost use Rattle.reply_text.specs.Lines.{fault_line, line_head, named_word, suffix};
+ghost use Rattle.reply_text.specs.Lines.{fault_line, named_word, suffix};
+ghost use Rattle.reply_text.specs.work.Lines.{line_head};
 
 use crate::pieces::{write_pieces, write_small};
 use crate::tells::{Naming, Place, how_named, place_named};

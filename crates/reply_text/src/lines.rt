@@ -3,7 +3,7 @@
 ghost use Rattle.std.specs.Prelude.{◌≡◌, IfOk, OnOk, Some, map};
 ghost use Rattle.csv.specs.Writing.{writer_setup, writer_under};
 ghost use Rattle.reply_text.specs.Texts.{field_text, row_line};
-ghost use Rattle.reply_text.specs.Writers.{HasField, HasNewText, IsBetween, row_writer};
+ghost use Rattle.reply_text.specs.work.Writers.{HasField, HasNewText, IsBetween, row_writer};
 
 use csv::{Error, Writer, WriterBuilder};
 use itoa::Buffer;
@@ -33,7 +33,7 @@ impl Drop for Lines {
 }
 
 impl Model for Lines {
-    ghost use Rattle.reply_text.specs.Writers.{IsBetween};
+    ghost use Rattle.reply_text.specs.work.Writers.{IsBetween};
 
     ghost Value = { Unit {0} };
 

@@ -24,10 +24,10 @@ use Rattle.index_match.proofs.ArmLemmas.{parts_few}
 use Rattle.sql_query.specs.Queries.{Query}
 use Rattle.plan_tree.specs.Bitmaps.{ArePicked, none_left, picked, passed, AreElements, Element, HasArms, IsElement, MOST_ELEMENTS, MatchesArm, by_clause, by_index, candidates, condition_at, condition_by, element_of, is_or, table_of_relation}
 use Rattle.plan_tree.specs.Plans.{BitTree, leaf, all_hold, some_arm}
-use Rattle.bitmap_scan.specs.Chosen.{IsLeastTree, marked}
+use Rattle.bitmap_scan.specs.work.Chosen.{IsLeastTree, marked}
 use Rattle.pg_base.proofs.ListLemmas.{sum-cons}
 use Rattle.plan_check.specs.Plains.{arms_in}
-use Rattle.scan_cover.specs.Limits.{HasFewAtoms, arms_of_all, or_atoms}
+use Rattle.scan_cover.specs.work.Limits.{HasFewAtoms, arms_of_all, or_atoms}
 use Rattle.eq_classes.specs.Parts.{is_local}
 
 -- sums over a part of a list are no greater

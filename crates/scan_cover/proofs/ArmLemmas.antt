@@ -6,15 +6,15 @@ use Rattle.pg_base.specs.declared.numbers.IndexNo.{IndexNo}
 use Rattle.pg_base.specs.declared.numbers.RelNo.{RelNo}
 use Rattle.pg_base.specs.declared.rel_set.RelSet.{RelSet}
 use Rattle.pg_expr.specs.Cond.{Cond}
-use Rattle.pg_expr.specs.View.{cond}
+use Rattle.pg_expr.specs.work.View.{cond}
 use Rattle.pg_expr.specs.declared.expr.Expr.{Expr}
 use Rattle.catalog.specs.Contents.{Contents}
-use Rattle.cost_rules.specs.Costs.{capped}
+use Rattle.cost_rules.specs.work.Costs.{capped}
 use Rattle.sql_query.specs.Queries.{Query}
 use Rattle.plan_tree.specs.Costs.{together}
-use Rattle.bitmap_scan.specs.Arms.{AreServed, IsLeastMatch, part_for}
+use Rattle.bitmap_scan.specs.work.Arms.{AreServed, IsLeastMatch, part_for}
 use Rattle.bitmap_scan.proofs.ArmLemmas.{served-more, zip-push}
-use Rattle.scan_cover.specs.Arms.{IsFilled}
+use Rattle.scan_cover.specs.work.Arms.{IsFilled}
 use Rattle.scan_cover.specs.declared.filling.Arms.{Arms}
 
 -- one arm more

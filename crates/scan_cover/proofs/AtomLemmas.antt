@@ -22,7 +22,7 @@ use Rattle.sql_query.specs.Queries.{Query}
 use Rattle.sql_query.specs.WellBound.{IsWellBound, given_with}
 use Rattle.plan_tree.specs.Bitmaps.{is_or}
 use Rattle.pg_base.proofs.ListLemmas.{sum-cons}
-use Rattle.scan_cover.specs.Limits.{HasFewAtoms, or_atoms}
+use Rattle.scan_cover.specs.work.Limits.{HasFewAtoms, or_atoms}
 
 sum-joined : (xs ys : List Clause) → sum (map or_atoms (xs ++ ys)) ≡ sum (map or_atoms xs) + sum (map or_atoms ys)
 sum-joined [] ys = omega arith

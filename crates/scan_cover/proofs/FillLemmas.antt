@@ -4,7 +4,7 @@ use Rattle.std.specs.Prelude.{replicate}
 use Rattle.std.proofs.lemmas.List.{take-append-le, length-append}
 use Rattle.pg_base.specs.declared.limits.TheConstants.{MOST_ATOMS}
 use Rattle.pg_base.specs.declared.numbers.IndexNo.{IndexNo}
-use Rattle.scan_cover.specs.Arms.{IsFilled, in_array}
+use Rattle.scan_cover.specs.work.Arms.{IsFilled, in_array}
 use Rattle.scan_cover.specs.declared.filling.Arms.{Arms}
 
 module _ (z : IndexNo) where

@@ -15,12 +15,12 @@ use Rattle.eq_classes.specs.Clauses.{Clause}
 use Rattle.eq_classes.proofs.InsideLemmas.{column_both}
 use Rattle.index_match.specs.Conditions.{index_conditions}
 use Rattle.index_match.specs.Numbered.{has_number}
-use Rattle.path_cost.specs.Columns.{IsOver, is_column_in}
+use Rattle.path_cost.specs.work.Columns.{IsOver, is_column_in}
 use Rattle.path_cost.specs.Estimates.{conditions_from}
 use Rattle.sql_query.specs.Queries.{Query, all_of_query, width}
 use Rattle.plan_tree.specs.Bitmaps.{uses}
 use Rattle.plan_tree.specs.Plans.{BitTree}
-use Rattle.plan_tree.specs.Reads.{IsOverTables}
+use Rattle.plan_tree.specs.work.Reads.{IsOverTables}
 use Rattle.plan_tree.specs.Space.{IsBitmapScan, IsIndexScan, IsSameSet, others_named}
 use Rattle.plan_tree.proofs.ConditionLemmas.{conditions-listed}
 use Rattle.plan_tree.proofs.SetLemmas.{within-most}

@@ -8,10 +8,10 @@ use Rattle.pg_base.specs.declared.limits.TheConstants.{MOST_ATOMS}
 use Rattle.pg_base.specs.declared.numbers.IndexNo.{IndexNo}
 use Rattle.pg_base.specs.declared.numbers.RelNo.{RelNo}
 use Rattle.pg_base.specs.declared.rel_set.RelSet.{RelSet}
-use Rattle.pg_expr.specs.AtomSets.{contains}
+use Rattle.pg_expr.specs.work.AtomSets.{contains}
 use Rattle.pg_expr.specs.Cond.{Cond}
 use Rattle.catalog.specs.Contents.{Contents}
-use Rattle.cost_rules.specs.Costs.{capped, capped_pair}
+use Rattle.cost_rules.specs.work.Costs.{capped, capped_pair}
 use Rattle.cost_rules.specs.declared.pair.Pair.{Pair}
 use Rattle.eq_classes.specs.Clauses.{one}
 use Rattle.index_match.specs.Arms.{arms_of}
@@ -20,24 +20,24 @@ use Rattle.path_cost.specs.Estimates.{conditions_from}
 use Rattle.sql_query.specs.Queries.{Query, width}
 use Rattle.plan_tree.specs.Bitmaps.{AreElements, Element, MOST_ELEMENTS, by_clause, by_index, condition_at, uses}
 use Rattle.plan_tree.specs.Costs.{cost, parts_of_arms, together}
-use Rattle.plan_tree.specs.Paths.{kept_cost}
+use Rattle.plan_tree.specs.work.Paths.{kept_cost}
 use Rattle.plan_tree.specs.Plans.{BitTree, bitmap, some_arm}
 use Rattle.plan_tree.specs.Space.{IsPlanOf, IsSameSet, others_named}
-use Rattle.plan_tree.specs.Views.{element}
+use Rattle.plan_tree.specs.work.Views.{element}
 use Rattle.plan_tree.specs.declared.elements.Element.{Element as Chosen}
-use Rattle.bitmap_scan.specs.Arms.{IsLeastMatch}
-use Rattle.bitmap_scan.specs.Chosen.{IsLeastTree, combined, marked}
-use Rattle.bitmap_scan.specs.ElementTrees.{IsMade}
+use Rattle.bitmap_scan.specs.work.Arms.{IsLeastMatch}
+use Rattle.bitmap_scan.specs.work.Chosen.{IsLeastTree, combined, marked}
+use Rattle.bitmap_scan.specs.work.ElementTrees.{IsMade}
 use Rattle.bitmap_scan.proofs.ArmLemmas.{clause-least}
 use Rattle.bitmap_scan.proofs.ElementLemmas.{elements-made}
 use Rattle.pg_base.proofs.ListLemmas.{zip-length}
 use Rattle.bitmap_scan.proofs.ScanLemmas.{chosen-scan, cost-cut, named-from}
 use Rattle.plan_check.specs.Plains.{arms_in}
 use Rattle.join_cover.specs.entry_check_ScanLemmas.{kept-cut}
-use Rattle.scan_cover.specs.Limits.{HasFewAtoms, arms_of_all}
+use Rattle.scan_cover.specs.work.Limits.{HasFewAtoms, arms_of_all}
 use Rattle.scan_cover.proofs.ArmAtomLemmas.{arms-fit}
-use Rattle.scan_cover.specs.Arms.{IsFilled}
-use Rattle.scan_cover.specs.Trees.{AreFirst, AreKept, IsKept, element_in}
+use Rattle.scan_cover.specs.work.Arms.{IsFilled}
+use Rattle.scan_cover.specs.work.Trees.{AreFirst, AreKept, IsKept, element_in}
 use Rattle.scan_cover.specs.declared.filling.Arms.{Arms}
 use Rattle.scan_cover.specs.declared.kept.Kept.{Kept}
 use Rattle.scan_cover.proofs.ArmLemmas.{filled-none}

@@ -6,7 +6,7 @@ use Rattle.std.proofs.lemmas.Nat.{shr-shr}
 use Rattle.std.proofs.lemmas.List.{append-nil, drop_more, length-append}
 use Rattle.std.proofs.lemmas.List.Folds.{list_any-append}
 use Rattle.plan_check.specs.Plains.{mask_of}
-use Rattle.bitmap_scan.specs.Chosen.{marked}
+use Rattle.bitmap_scan.specs.work.Chosen.{marked}
 
 -- the first items of a list were looked at, and some of them were marked
 pub record IsSplit {X : Type 0} (mask : ℕ) (xs : List X) (left n : ℕ) (seen : List X) : Type 0 where

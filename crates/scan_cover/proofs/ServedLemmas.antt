@@ -16,10 +16,10 @@ use Rattle.sql_query.specs.Queries.{Query, all_of_query, width}
 use Rattle.plan_tree.specs.Bitmaps.{Element, IsElement, IsTreeOver, MOST_ELEMENTS, candidates, uses}
 use Rattle.plan_tree.specs.Least.{IsAdmissible}
 use Rattle.plan_tree.specs.Plans.{BitTree, bitmap}
-use Rattle.plan_tree.specs.Reads.{IsOverTables}
+use Rattle.plan_tree.specs.work.Reads.{IsOverTables}
 use Rattle.plan_tree.specs.Space.{IsBitmapScan, IsPlanOf, IsSameSet, conditions_used, others_named}
 use Rattle.plan_tree.proofs.DominationLemmas.{dominates-trans}
-use Rattle.bitmap_scan.specs.Chosen.{AreChosen, IsLeastTree, combined, marked}
+use Rattle.bitmap_scan.specs.work.Chosen.{AreChosen, IsLeastTree, combined, marked}
 use Rattle.bitmap_scan.proofs.LeastLemmas.{IsUnder, chosen-under}
 use Rattle.bitmap_scan.proofs.MarkedLemmas.{marked-all, where-zip}
 use Rattle.pg_base.proofs.ListLemmas.{zip-length}
@@ -31,11 +31,11 @@ use Rattle.plan_check.specs.Plains.{IsTreeOf, StandsForPlan, mask_of}
 use Rattle.plan_check.specs.declared.verdict.Plain.TheVariants as plain
 use Rattle.join_cover.specs.entry_check_Owning.{AreNumbersOf}
 use Rattle.join_cover.specs.entry_check_numbers_Own.{Own}
-use Rattle.join_cover.specs.Serving.{IsServed}
-use Rattle.scan_cover.specs.Scanning.{IsScanWith}
+use Rattle.join_cover.specs.work.Serving.{IsServed}
+use Rattle.scan_cover.specs.work.Scanning.{IsScanWith}
 use Rattle.scan_cover.proofs.GivenLemmas.{bitmap-most}
-use Rattle.scan_cover.specs.Trees.{AreAllBitmapsServed, AreBitmapsServed, AreFirst, AreKept, AreRelationBitmapsServed, IsKept, IsMarkServed, element_in}
-use Rattle.scan_cover.specs.Limits.{arms_of_all}
+use Rattle.scan_cover.specs.work.Trees.{AreAllBitmapsServed, AreBitmapsServed, AreFirst, AreKept, AreRelationBitmapsServed, IsKept, IsMarkServed, element_in}
+use Rattle.scan_cover.specs.work.Limits.{arms_of_all}
 use Rattle.scan_cover.specs.declared.kept.Kept.{Kept}
 use Rattle.scan_cover.proofs.MarkLemmas.{mask-marks, zip-marked}
 use Rattle.bitmap_scan.proofs.KeptLemmas.{marked-map as map-marked}

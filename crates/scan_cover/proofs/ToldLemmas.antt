@@ -14,7 +14,7 @@ use Rattle.plan_tree.specs.Keys.{keys_of}
 use Rattle.plan_tree.specs.Plans.{Plan, index, index_only, seq}
 use Rattle.plan_tree.specs.Space.{IsBuilt}
 use Rattle.plan_check.specs.Certificates.{Certificate}
-use Rattle.plan_check.specs.Beating.{IsBeaten, IsRight, as_entry}
+use Rattle.plan_check.specs.work.Beating.{IsBeaten, IsRight, as_entry}
 use Rattle.plan_check.specs.Plains.{StandsForPlan}
 use Rattle.plan_check.specs.Reasons.{AllRight}
 use Rattle.plan_check.specs.declared.verdict.Plain.{Plain}
@@ -23,9 +23,9 @@ use Rattle.join_cover.specs.entry_check_Owning.{AreNumbersOf, tree_of}
 use Rattle.join_cover.specs.entry_check_numbers_Own.{Own}
 use Rattle.join_cover.specs.entry_check_scans_ByIndex.{ByIndex}
 use Rattle.join_cover.specs.entry_check_ScanLemmas.{tree-param, tree-plain, tree-set}
-use Rattle.join_cover.specs.Serving.{IsOpen, IsServed}
+use Rattle.join_cover.specs.work.Serving.{IsOpen, IsServed}
 use Rattle.join_cover.specs.declared.uncovered.Uncovered.{Uncovered}
-use Rattle.scan_cover.specs.Scanning.{IsLeftOpen, IsScanWith}
+use Rattle.scan_cover.specs.work.Scanning.{IsLeftOpen, IsScanWith}
 
 module _ (c : Contents) (q : Query) where
   -- what is said of a scan is right

@@ -8,25 +8,25 @@ use Rattle.pg_base.specs.Sets.{has}
 use Rattle.pg_base.specs.declared.numbers.IndexNo.{IndexNo}
 use Rattle.pg_base.specs.declared.numbers.RelNo.{RelNo}
 use Rattle.pg_base.specs.declared.rel_set.RelSet.{RelSet}
-use Rattle.pg_expr.specs.AtomSets.{contains}
+use Rattle.pg_expr.specs.work.AtomSets.{contains}
 use Rattle.pg_expr.specs.Cond.{Cond}
 use Rattle.catalog.specs.Contents.{Contents}
 use Rattle.sql_query.specs.Queries.{Query}
-use Rattle.cost_rules.specs.Costs.{capped}
+use Rattle.cost_rules.specs.work.Costs.{capped}
 use Rattle.index_match.specs.Arms.{arms_of}
 use Rattle.index_match.specs.Conditions.{index_conditions}
 use Rattle.index_match.specs.Numbered.{has_number}
 use Rattle.plan_tree.specs.Bitmaps.{Element, HasArms, MatchesArm, by_clause, by_index, condition_at, element_of, elements_of, some_uses, uses}
 use Rattle.plan_tree.specs.Costs.{part_of, parts_of_all, together}
 use Rattle.plan_tree.specs.Plans.{BitTree, leaf, all_hold, some_arm}
-use Rattle.plan_tree.specs.Views.{trees_of}
-use Rattle.bitmap_scan.specs.Arms.{AreServed}
-use Rattle.bitmap_scan.specs.Chosen.{IsLeastTree, combined}
+use Rattle.plan_tree.specs.work.Views.{trees_of}
+use Rattle.bitmap_scan.specs.work.Arms.{AreServed}
+use Rattle.bitmap_scan.specs.work.Chosen.{IsLeastTree, combined}
 use Rattle.bitmap_scan.proofs.ArmLemmas.{clause-least, clause-part}
 use Rattle.pg_base.proofs.ListLemmas.{sum-cons}
 use Rattle.plan_check.specs.Plains.{arms_in, arms_in_all, elements_in}
-use Rattle.scan_cover.specs.Trees.{IsKept, element_in}
-use Rattle.scan_cover.specs.Limits.{arms_of_all}
+use Rattle.scan_cover.specs.work.Trees.{IsKept, element_in}
+use Rattle.scan_cover.specs.work.Limits.{arms_of_all}
 use Rattle.scan_cover.specs.declared.kept.Kept.{Kept}
 use Rattle.pg_base.proofs.NumberLemmas.{test-below as inside}
 use Rattle.bitmap_scan.proofs.KeptLemmas.{capped-both}

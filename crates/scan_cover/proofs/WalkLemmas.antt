@@ -11,14 +11,14 @@ use Rattle.catalog.specs.Contents.{Contents, indexes_of}
 use Rattle.sql_query.specs.Queries.{Query, all_of_query, width}
 use Rattle.plan_tree.specs.Bitmaps.{IsIndexOn, table_of_relation}
 use Rattle.plan_tree.specs.Plans.{seq, index, index_only, bitmap, sort, nest, merge}
-use Rattle.plan_tree.specs.Reads.{IsOverTables}
+use Rattle.plan_tree.specs.work.Reads.{IsOverTables}
 use Rattle.plan_tree.specs.Space.{IsBuilt, IsSameSet}
 use Rattle.plan_tree.proofs.ElementLemmas.{is-listed, listed-on}
 use Rattle.plan_check.specs.Certificates.{Certificate}
 use Rattle.plan_check.specs.declared.verdict.Plain.{Plain}
-use Rattle.join_cover.specs.Serving.{IsServed}
+use Rattle.join_cover.specs.work.Serving.{IsServed}
 use Rattle.join_cover.specs.declared.uncovered.Uncovered.{Uncovered}
-use Rattle.scan_cover.specs.Scanning.{ArePlainScansServed, IsIndexServed, IsRelationServed, scan_by}
+use Rattle.scan_cover.specs.work.Scanning.{ArePlainScansServed, IsIndexServed, IsRelationServed, scan_by}
 use Rattle.scan_cover.proofs.GivenLemmas.{index-most}
 
 -- what all of a list have, each that is listed has

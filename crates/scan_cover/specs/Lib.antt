@@ -1,11 +1,7 @@
-pub mod Scanning
-pub mod Limits
-pub mod Trees
-pub mod Arms
-pub mod Covering
+pub mod work
 -- What callers name of the crates below.
 pub use Rattle.join_cover.proofs.CoverLemmas as join_cover_CoverLemmas
-pub use Rattle.join_cover.specs.Serving as join_cover_Serving
+pub use Rattle.join_cover.specs.work.Serving as join_cover_Serving
 pub use Rattle.join_cover.specs.declared.uncovered.Uncovered as join_cover_uncovered_Uncovered
 pub use Rattle.join_cover.specs.entry_check_Owning as entry_check_Owning
 pub use Rattle.join_cover.specs.entry_check_PlaceLemmas as entry_check_PlaceLemmas

@@ -4,17 +4,17 @@ ghost use Rattle.std.specs.Prelude.{◌≡◌, ◌<◌, ◌≤◌, ◌++◌, ◌
 ghost use Rattle.pg_base.specs.declared.limits.TheConstants.{MOST_ATOMS};
 ghost use Rattle.pg_base.specs.declared.numbers.IndexNo.{IndexNo as Numbered};
 ghost use Rattle.pg_expr.specs.Columns.{atom_count};
-ghost use Rattle.pg_expr.specs.View.{cond};
+ghost use Rattle.pg_expr.specs.work.View.{cond};
 ghost use Rattle.pg_expr.specs.declared.expr.Expr.{Expr as Condition};
-ghost use Rattle.cost_rules.specs.Costs.{capped};
-ghost use Rattle.path_cost.specs.Columns.{IsOver};
+ghost use Rattle.cost_rules.specs.work.Costs.{capped};
+ghost use Rattle.path_cost.specs.work.Columns.{IsOver};
 ghost use Rattle.sql_query.specs.Queries.{width};
 ghost use Rattle.plan_tree.specs.Bitmaps.{MatchesArm};
 ghost use Rattle.plan_tree.specs.Costs.{together};
-ghost use Rattle.plan_tree.specs.Reads.{IsOverTables};
-ghost use Rattle.bitmap_scan.specs.Arms.{AreServed, IsLeastMatch, part_for};
-ghost use Rattle.bitmap_scan.specs.Arms as least;
-ghost use Rattle.scan_cover.specs.Arms.{HaveMatches, PutsLeast};
+ghost use Rattle.plan_tree.specs.work.Reads.{IsOverTables};
+ghost use Rattle.bitmap_scan.specs.work.Arms.{AreServed, IsLeastMatch, part_for};
+ghost use Rattle.bitmap_scan.specs.work.Arms as least;
+ghost use Rattle.scan_cover.specs.work.Arms.{HaveMatches, PutsLeast};
 
 use crate::filling::Arms;
 use crate::indexes_of;

@@ -11,8 +11,8 @@ ghost use Rattle.sql_query.specs.Queries.{Query};
 ghost use Rattle.sql_query.specs.WellBound.{IsWellBound};
 ghost use Rattle.plan_tree.specs.Bitmaps.{AreElements, Element, MOST_ELEMENTS};
 ghost use Rattle.plan_tree.specs.Plans.{BitTree};
-ghost use Rattle.bitmap_scan.specs.Chosen.{IsLeastTree, marked};
-ghost use Rattle.scan_cover.specs.Limits.{HasFewAtoms, arms_of_all};
+ghost use Rattle.bitmap_scan.specs.work.Chosen.{IsLeastTree, marked};
+ghost use Rattle.scan_cover.specs.work.Limits.{HasFewAtoms, arms_of_all};
 
 /// The OR clauses of a well bound query together have no more atoms than a statement may have.
 pub fn few_atoms()

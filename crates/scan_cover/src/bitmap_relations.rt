@@ -2,14 +2,14 @@
 
 ghost use Rattle.std.specs.Prelude.{◌<◌, MatchOption};
 ghost use Rattle.pg_base.specs.Sets.{has};
-ghost use Rattle.plan_tree.specs.Reads.{IsOverTables};
+ghost use Rattle.plan_tree.specs.work.Reads.{IsOverTables};
 ghost use Rattle.plan_tree.specs.Space.{IsSameSet};
 ghost use Rattle.sql_query.specs.Queries.{all_of_query, width};
-ghost use Rattle.plan_check.specs.Views.{certificate};
-ghost use Rattle.plan_check.specs.Placing.{ArePlaced};
+ghost use Rattle.plan_check.specs.work.Views.{certificate};
+ghost use Rattle.plan_check.specs.work.Placing.{ArePlaced};
 ghost use Rattle.plan_check.specs.Reasons.{AllRight};
-ghost use Rattle.scan_cover.specs.Limits.{HasFewAtoms};
-ghost use Rattle.scan_cover.specs.Covering.{CoversAllBitmaps, CoversBitmaps, CoversRelationBitmaps, MissesBitmapScan};
+ghost use Rattle.scan_cover.specs.work.Limits.{HasFewAtoms};
+ghost use Rattle.scan_cover.specs.work.Covering.{CoversAllBitmaps, CoversBitmaps, CoversRelationBitmaps, MissesBitmapScan};
 
 use crate::elements::keep_all;
 use crate::entry_check::all_relations;

@@ -1,16 +1,16 @@
 //! The elements of bitmaps, each with the part of its tree of least part.
 
 ghost use Rattle.std.specs.Prelude.{◌≡◌, ◌<◌, ◌≤◌, ℕ, All, length, map, nat_eq};
-ghost use Rattle.pg_expr.specs.AtomSets.{contains};
+ghost use Rattle.pg_expr.specs.work.AtomSets.{contains};
 ghost use Rattle.catalog.specs.Contents.{IsIndex};
 ghost use Rattle.sql_query.specs.Queries.{width};
 ghost use Rattle.plan_tree.specs.Bitmaps.{IsMatchedOr, condition_at};
 ghost use Rattle.plan_tree.specs.Plans.{BitTree, leaf};
-ghost use Rattle.plan_tree.specs.Reads.{IsOverTables};
-ghost use Rattle.plan_tree.specs.Views.{element};
+ghost use Rattle.plan_tree.specs.work.Reads.{IsOverTables};
+ghost use Rattle.plan_tree.specs.work.Views.{element};
 ghost use Rattle.plan_tree.specs.declared.elements.Element.TheVariants as elements;
-ghost use Rattle.bitmap_scan.specs.ElementTrees.{IsMade};
-ghost use Rattle.scan_cover.specs.Trees.{AreKept, IsKept, element_in};
+ghost use Rattle.bitmap_scan.specs.work.ElementTrees.{IsMade};
+ghost use Rattle.scan_cover.specs.work.Trees.{AreKept, IsKept, element_in};
 
 use crate::arms::arms_part;
 use crate::kept::Kept;

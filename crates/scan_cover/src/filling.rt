@@ -1,7 +1,7 @@
 //! The indexes of arms, in an array.
 
 ghost use Rattle.std.specs.Prelude.{◌∷◌, []};
-ghost use Rattle.scan_cover.specs.Arms.{IsFilled, PutsIndexes};
+ghost use Rattle.scan_cover.specs.work.Arms.{IsFilled, PutsIndexes};
 
 use pg_base::{IndexNo, MOST_ATOMS};
 

@@ -3,16 +3,16 @@
 ghost use Rattle.std.specs.Prelude.{◌≡◌, ◌<◌, ◌≤◌, MatchOption, length};
 ghost use Rattle.pg_base.specs.declared.limits.TheConstants.{MOST_COLUMNS};
 ghost use Rattle.catalog.specs.Contents.{IsIndex};
-ghost use Rattle.pathkeys.specs.Finding.{class_numbers};
+ghost use Rattle.pathkeys.specs.work.Finding.{class_numbers};
 ghost use Rattle.plan_tree.specs.Keys.{keys_of as list_of};
-ghost use Rattle.plan_tree.specs.Reads.{IsOverTables};
+ghost use Rattle.plan_tree.specs.work.Reads.{IsOverTables};
 ghost use Rattle.plan_tree.specs.Space.{IsBuilt};
 ghost use Rattle.sql_query.specs.Queries.{width};
-ghost use Rattle.plan_check.specs.Views.{certificate};
-ghost use Rattle.plan_check.specs.Placing.{ArePlaced};
+ghost use Rattle.plan_check.specs.work.Views.{certificate};
+ghost use Rattle.plan_check.specs.work.Placing.{ArePlaced};
 ghost use Rattle.plan_check.specs.Reasons.{AllRight};
 ghost use Rattle.join_cover.specs.entry_check_Owning.{tree_of};
-ghost use Rattle.scan_cover.specs.Covering.{CoversIndex, CoversScan, MissesPlainScan, MissesScan};
+ghost use Rattle.scan_cover.specs.work.Covering.{CoversIndex, CoversScan, MissesPlainScan, MissesScan};
 
 use crate::numbers::open_with;
 use arrayvec::ArrayVec;

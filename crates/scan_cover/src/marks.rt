@@ -2,11 +2,11 @@
 
 ghost use Rattle.std.specs.Prelude.{◌≡◌, ◌<◌, ◌≤◌, ◌+◌, ◌%◌, ◌&&◌, ◌||◌, cond, length, map, nat_eq};
 ghost use Rattle.std.specs.List.{list_any};
-ghost use Rattle.pg_expr.specs.AtomSets.{contains};
-ghost use Rattle.cost_rules.specs.Costs.{capped};
+ghost use Rattle.pg_expr.specs.work.AtomSets.{contains};
+ghost use Rattle.cost_rules.specs.work.Costs.{capped};
 ghost use Rattle.plan_tree.specs.Costs.{together};
-ghost use Rattle.bitmap_scan.specs.Chosen.{marked};
-ghost use Rattle.scan_cover.specs.Trees.{AddsPart, AreUsedByKept};
+ghost use Rattle.bitmap_scan.specs.work.Chosen.{marked};
+ghost use Rattle.scan_cover.specs.work.Trees.{AddsPart, AreUsedByKept};
 
 use crate::arms::with_part;
 use crate::kept::Kept;

@@ -3,17 +3,17 @@
 ghost use Rattle.std.specs.Prelude.{◌≡◌, ◌<◌, ◌≤◌, ◌^◌, ℕ, All, IfNone, IfSome, MatchOption, cond, ◌∷◌, [], length};
 ghost use Rattle.plan_tree.specs.Bitmaps.{IsMatchedOr, condition_at};
 ghost use Rattle.plan_tree.specs.Plans.{BitTree};
-ghost use Rattle.plan_tree.specs.Reads.{IsOverTables};
+ghost use Rattle.plan_tree.specs.work.Reads.{IsOverTables};
 ghost use Rattle.plan_tree.specs.declared.elements.Element.TheVariants as elements;
 ghost use Rattle.sql_query.specs.Queries.{width};
-ghost use Rattle.bitmap_scan.specs.Chosen.{marked};
-ghost use Rattle.bitmap_scan.specs.ElementTrees.{IsMade};
-ghost use Rattle.plan_check.specs.Views.{certificate};
-ghost use Rattle.plan_check.specs.Placing.{ArePlaced};
+ghost use Rattle.bitmap_scan.specs.work.Chosen.{marked};
+ghost use Rattle.bitmap_scan.specs.work.ElementTrees.{IsMade};
+ghost use Rattle.plan_check.specs.work.Views.{certificate};
+ghost use Rattle.plan_check.specs.work.Placing.{ArePlaced};
 ghost use Rattle.plan_check.specs.Reasons.{AllRight};
-ghost use Rattle.scan_cover.specs.Limits.{HasFewAtoms};
-ghost use Rattle.scan_cover.specs.Trees.{AreFirst, AreKept, IsKept, PutsAllArms, PutsArms, element_in};
-ghost use Rattle.scan_cover.specs.Covering.{CoversBitmaps, CoversMarked, IsNodeOfMarked, IsScanByBitmap, MissesBitmapScan, MissesMarked};
+ghost use Rattle.scan_cover.specs.work.Limits.{HasFewAtoms};
+ghost use Rattle.scan_cover.specs.work.Trees.{AreFirst, AreKept, IsKept, PutsAllArms, PutsArms, element_in};
+ghost use Rattle.scan_cover.specs.work.Covering.{CoversBitmaps, CoversMarked, IsNodeOfMarked, IsScanByBitmap, MissesBitmapScan, MissesMarked};
 
 use crate::arms::put_least;
 use crate::entry_check::{numbers_of, rows_given};

@@ -1,9 +1,9 @@
 //! Candidates by their numbers.
 
 ghost use Rattle.std.specs.Prelude.{IfNone, IfSome};
-ghost use Rattle.plan_check.specs.Views.{certificate};
-ghost use Rattle.plan_check.specs.Placing.{ArePlaced};
-ghost use Rattle.scan_cover.specs.Covering.{CoversCandidate, CoversScansWith, MissesCandidate, MissesScansWith};
+ghost use Rattle.plan_check.specs.work.Views.{certificate};
+ghost use Rattle.plan_check.specs.work.Placing.{ArePlaced};
+ghost use Rattle.scan_cover.specs.work.Covering.{CoversCandidate, CoversScansWith, MissesCandidate, MissesScansWith};
 
 use eq_classes::ClassNo;
 use join_cover::Uncovered;

@@ -3,14 +3,15 @@
 ghost use Rattle.std.specs.Prelude.{◌≡◌, ◌<◌, MatchOption};
 ghost use Rattle.pg_base.specs.Sets.{has};
 ghost use Rattle.catalog.specs.Contents as contents;
+ghost use Rattle.catalog.specs.work.Contents as contents_work;
 ghost use Rattle.plan_tree.specs.Bitmaps.{table_of_relation};
-ghost use Rattle.plan_tree.specs.Reads.{IsOverTables};
+ghost use Rattle.plan_tree.specs.work.Reads.{IsOverTables};
 ghost use Rattle.plan_tree.specs.Space.{IsSameSet};
 ghost use Rattle.sql_query.specs.Queries.{all_of_query, width};
-ghost use Rattle.plan_check.specs.Views.{certificate};
-ghost use Rattle.plan_check.specs.Placing.{ArePlaced};
+ghost use Rattle.plan_check.specs.work.Views.{certificate};
+ghost use Rattle.plan_check.specs.work.Placing.{ArePlaced};
 ghost use Rattle.plan_check.specs.Reasons.{AllRight};
-ghost use Rattle.scan_cover.specs.Covering.{CoversIndexes, CoversPlainScans, CoversRelation, CoversSeq, MissesPlainScan, MissesSeq};
+ghost use Rattle.scan_cover.specs.work.Covering.{CoversIndexes, CoversPlainScans, CoversRelation, CoversSeq, MissesPlainScan, MissesSeq};
 
 use crate::indexes::open_by_index;
 use crate::numbers::open_with;

@@ -18,7 +18,7 @@ use Rattle.pg_expr.specs.Columns.{each_column}
 use Rattle.pg_value.specs.declared.operators.Truth.TheVariants.{True}
 use Rattle.pg_expr.specs.Cond.{Cond, const}
 use Rattle.heap.specs.Stored.{Values}
-use Rattle.heap.specs.Tuples.{padded}
+use Rattle.heap.specs.work.Tuples.{padded}
 use Rattle.catalog.specs.Contents.{Contents, IsLawful, index_at, table_at}
 use Rattle.catalog.specs.Indexes.{Index, columns_of}
 use Rattle.catalog.specs.Range.{Range, relation_at}
@@ -30,7 +30,7 @@ use Rattle.eq_classes.proofs.HoldLemmas.{in_map}
 use Rattle.eq_classes.proofs.ListLemmas.{IsIn, all_at, all_from, in_filter, in_left, in_parts}
 use Rattle.eq_classes.proofs.WrittenLemmas.{in_columns}
 use Rattle.scan_probes.specs.plan_laws_OverLemmas.{conditions_pass, item_used}
-use Rattle.btree_index.specs.Tree.{in_direction}
+use Rattle.btree_index.specs.work.Tree.{in_direction}
 use Rattle.index_match.specs.Bounds.{index_bounds}
 use Rattle.index_match.specs.Conditions.{index_conditions, is_condition}
 use Rattle.index_match.specs.Numbered.{Numbered, base, conditions_of, local, numbered}
@@ -43,12 +43,12 @@ use Rattle.sql_query.specs.Worlds.{World, world}
 use Rattle.plan_tree.specs.Bitmaps.{IsIndexOn}
 use Rattle.plan_tree.specs.Entries.{entries}
 use Rattle.plan_tree.specs.Run.{clauses_at, index_scan_conditions, in_scan_direction}
-use Rattle.store.specs.Kept.{Kept}
-use Rattle.scan_probes.specs.Scenes.{AreReadyAtRow}
-use Rattle.scan_probes.specs.Values.{Given, key_columns}
+use Rattle.store.specs.work.Kept.{Kept}
+use Rattle.scan_probes.specs.work.Scenes.{AreReadyAtRow}
+use Rattle.scan_probes.specs.work.Values.{Given, key_columns}
 use Rattle.scan_exec.specs.Coming.{bounded, entry_row, fetched_row}
-use Rattle.scan_exec.specs.Kinds.{IsReadyCover, IsReadyEntry, IsReadyNumber, covered_at, entry_at, fetched_at, rows_from, rows_of}
-use Rattle.scan_exec.specs.Scene.{IsNear, IsScene, limits}
+use Rattle.scan_exec.specs.work.Kinds.{IsReadyCover, IsReadyEntry, IsReadyNumber, covered_at, entry_at, fetched_at, rows_from, rows_of}
+use Rattle.scan_exec.specs.work.Scene.{IsNear, IsScene, limits}
 use Rattle.scan_exec.proofs.IndexLemmas.{IsEntryAt, IsHeldNear, holds_own, in_range, ready_entry, true_entry, used_held}
 use Rattle.scan_exec.proofs.LimitLemmas.{AreByNumber, limits_are, places_number}
 use Rattle.scan_exec.proofs.MovedLemmas.{moved_index}

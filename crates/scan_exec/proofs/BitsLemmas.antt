@@ -8,8 +8,8 @@ use Rattle.pg_base.specs.declared.numbers.Tid.{Tid}
 use Rattle.pg_base.specs.declared.rel_set.RelSet.{RelSet}
 use Rattle.pg_expr.specs.Cond.{Cond}
 use Rattle.heap.specs.Stored.{Values}
-use Rattle.heap.specs.TidSets.{TidSet, not_below}
-use Rattle.heap.specs.Tuples.{padded}
+use Rattle.heap.specs.work.TidSets.{TidSet, not_below}
+use Rattle.heap.specs.work.Tuples.{padded}
 use Rattle.catalog.specs.Contents.{Contents}
 use Rattle.catalog.specs.Range.{Range}
 use Rattle.eq_classes.proofs.ListLemmas.{in_filter}
@@ -18,13 +18,13 @@ use Rattle.sql_query.specs.Tuples.{rows_of_relation}
 use Rattle.sql_query.specs.Worlds.{world}
 use Rattle.plan_tree.specs.Plans.{BitTree, bitmap}
 use Rattle.plan_tree.specs.Run.{clauses_at, held, holds}
-use Rattle.store.specs.Kept.{Kept}
-use Rattle.scan_probes.specs.Scenes.{AreReadyAtRow}
-use Rattle.scan_probes.specs.Values.{Given}
+use Rattle.store.specs.work.Kept.{Kept}
+use Rattle.scan_probes.specs.work.Scenes.{AreReadyAtRow}
+use Rattle.scan_probes.specs.work.Values.{Given}
 use Rattle.scan_exec.specs.Coming.{coming}
-use Rattle.scan_exec.specs.Held.{set_held}
-use Rattle.scan_exec.specs.Kinds.{rows_of}
-use Rattle.scan_exec.specs.Scene.{IsScene}
+use Rattle.scan_exec.specs.work.Held.{set_held}
+use Rattle.scan_exec.specs.work.Kinds.{rows_of}
+use Rattle.scan_exec.specs.work.Scene.{IsScene}
 use Rattle.scan_exec.proofs.BegunLemmas.{clauses_all_ready, fetched_are}
 use Rattle.scan_exec.proofs.IndexLemmas.{in_range}
 use Rattle.scan_exec.proofs.MovedLemmas.{moved}

@@ -23,8 +23,9 @@ use Rattle.plan_tree.specs.Entries.{entry_rows}
 use Rattle.plan_tree.specs.Plans.{Plan, seq, index, index_only, bitmap, sort, nest, merge}
 use Rattle.plan_tree.specs.Run.{at_which, clauses_at, index_scan_conditions, in_scan_direction, held, met, run}
 use Rattle.plan_tree.specs.Space.{IsBuilt}
-use Rattle.scan_exec.specs.Coming.{Coming, looks_allowed, bounded, coming, entry_row, fetched_row, index_coming, rows_to_come, owed}
-use Rattle.scan_exec.specs.Plans.{IsScan, param_set, relation_of}
+use Rattle.scan_exec.specs.Coming.{Coming, bounded, coming, entry_row, fetched_row, index_coming, owed}
+use Rattle.scan_exec.specs.work.Coming.{looks_allowed, rows_to_come}
+use Rattle.scan_exec.specs.work.Plans.{IsScan, param_set, relation_of}
 use Rattle.plan_laws.proofs.ScanLemmas.{all_filtered as part_true}
 
 -- rows by a test of each

@@ -9,7 +9,8 @@ use Rattle.pg_base.specs.Sets.{has}
 use Rattle.pg_base.specs.declared.numbers.RelNo.{RelNo}
 use Rattle.pg_base.specs.declared.numbers.Tid.{Tid}
 use Rattle.pg_base.specs.declared.rel_set.RelSet.{RelSet}
-use Rattle.heap.specs.Tuples.{TupleList, padded, padded_tuples, rank, relation_count, row_number}
+use Rattle.heap.specs.Tuples.{rank, relation_count}
+use Rattle.heap.specs.work.Tuples.{TupleList, padded, padded_tuples, row_number}
 use Rattle.heap.proofs.RankLemmas.{rank-in, rank-out, rank-zero}
 use Rattle.sql_query.specs.Queries.{Query, width}
 use Rattle.sql_query.specs.Tuples.{Tuple, one_row}
@@ -17,8 +18,9 @@ use Rattle.sql_query.specs.Worlds.{World}
 use Rattle.plan_tree.specs.Counts.{fetches}
 use Rattle.plan_tree.specs.Plans.{Plan}
 use Rattle.plan_tree.specs.Run.{run}
-use Rattle.scan_exec.specs.Coming.{Coming, looks_allowed, behind, coming, is_given, rows_to_come, owed}
-use Rattle.scan_exec.specs.Plans.{IsScan, relation_of}
+use Rattle.scan_exec.specs.Coming.{Coming, coming, is_given, owed}
+use Rattle.scan_exec.specs.work.Coming.{looks_allowed, behind, rows_to_come}
+use Rattle.scan_exec.specs.work.Plans.{IsScan, relation_of}
 use Rattle.scan_exec.proofs.ComingLemmas.{fetched_rows, given_rows}
 
 -- the first that is given, and those behind

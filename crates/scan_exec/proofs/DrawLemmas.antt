@@ -1,6 +1,7 @@
 -- A list drawn from up to the first row that is given, and what was counted on the way.
 use Rattle.std.proofs.Common.{◌≡◌, ◌+◌, ℕ, Bool, true, false, cond, List, ◌∷◌, length, filter, find, Some, refl, sym, ap, ◌∙◌, arith}
-use Rattle.scan_exec.specs.Coming.{Coming, looks_allowed, behind, is_given, owed}
+use Rattle.scan_exec.specs.Coming.{Coming, is_given, owed}
+use Rattle.scan_exec.specs.work.Coming.{looks_allowed, behind}
 
 -- from one list on to a later part of it, with no row given between; and the counters before and after
 pub record IsOnward (old now : List Coming) (f g s t : ℕ) : Type 0 where

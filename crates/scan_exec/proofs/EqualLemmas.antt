@@ -16,7 +16,7 @@ use Rattle.pg_base.specs.declared.rel_set.RelSet.{RelSet}
 use Rattle.pg_value.specs.declared.columns.Column.{Column}
 use Rattle.pg_value.specs.declared.operators.Op.TheVariants.{Eq}
 use Rattle.pg_value.specs.declared.value.Value.{Value}
-use Rattle.pg_value.specs.Order.{IsOfFamily}
+use Rattle.pg_value.specs.work.Order.{IsOfFamily}
 use Rattle.pg_value.specs.Truths.{is_true, truth_of_op}
 use Rattle.opfamily.specs.Answers.{accepted}
 use Rattle.opfamily.specs.KeyOrder.{IndexEntry, first_value, key_family}
@@ -26,19 +26,19 @@ use Rattle.opfamily.specs.declared.classes.Method.TheVariants.{Btree, Hash}
 use Rattle.pg_expr.specs.Cond.{Cond}
 use Rattle.std.specs.Borrow.{Bor}
 use Rattle.pg_expr.specs.declared.expr.Expr.{Expr}
-use Rattle.pg_expr.specs.View as view
+use Rattle.pg_expr.specs.work.View as view
 use Rattle.pg_expr.specs.Truths.{truth_at}
 use Rattle.pg_expr.specs.Typed.{some_value}
 use Rattle.pg_expr.proofs.PushedLaws.{IsDefined}
 use Rattle.heap.specs.Stored.{IsRowOf, Values}
-use Rattle.heap.specs.Tuples.{padded}
+use Rattle.heap.specs.work.Tuples.{padded}
 use Rattle.catalog.specs.Contents.{Contents, IsLawful, index_at, table_at}
 use Rattle.catalog.specs.Indexes.{Index, IsKeyOf, IsLawfulIndex}
 use Rattle.catalog.specs.Indexes as indexes
 use Rattle.catalog.specs.Range.{Range, relation_at, type_in}
 use Rattle.eq_classes.proofs.HoldLemmas.{in_map}
 use Rattle.eq_classes.proofs.ListLemmas.{IsIn, all_from, in_filter}
-use Rattle.hash_index.specs.Held.{Held, HashTable, rows_equal}
+use Rattle.hash_index.specs.work.Held.{Held, HashTable, rows_equal}
 use Rattle.index_match.specs.Conditions.{allowed, has_key_form, index_conditions, is_condition, is_hash}
 use Rattle.index_match.specs.Numbered.{Numbered, conditions_of, local}
 use Rattle.sql_query.specs.Meaning.{all_true}
@@ -49,18 +49,18 @@ use Rattle.plan_tree.specs.Bitmaps.{IsIndexOn}
 use Rattle.plan_tree.specs.Entries.{cell, entries, entries_over, entry_rows}
 use Rattle.plan_tree.specs.Run.{at_which, clauses_at, index_scan_conditions, met}
 use Rattle.plan_tree.specs.Space.{may_go}
-use Rattle.store.specs.Kept.{Kept, built_by, built_of, first_key, hashed, held_of, hash_table}
+use Rattle.store.specs.work.Kept.{Kept, built_by, built_of, first_key, hashed, held_of, hash_table}
 use Rattle.store.proofs.FitLemmas.{key-fits, key-hashes}
 use Rattle.store.proofs.StoreLemmas.{holds}
-use Rattle.scan_probes.specs.Probes.{FitOwn, column_of, compared_with, is_known}
-use Rattle.scan_probes.specs.Filters as refs
-use Rattle.scan_probes.specs.Values.{Given, value_beside, value_in}
+use Rattle.scan_probes.specs.work.Probes.{FitOwn, column_of, compared_with, is_known}
+use Rattle.scan_probes.specs.work.Filters as refs
+use Rattle.scan_probes.specs.work.Values.{Given, value_beside, value_in}
 use Rattle.scan_probes.proofs.LawLemmas.{defined_beside}
 use Rattle.eq_classes.proofs.TypedLemmas.{is_some_value as some_fits}
 use Rattle.scan_probes.proofs.ProbeLemmas.{key_fits}
-use Rattle.scan_exec.specs.Scene.{AreUsed, IsNear, IsScene, IsUsed}
+use Rattle.scan_exec.specs.work.Scene.{AreUsed, IsNear, IsScene, IsUsed}
 use Rattle.scan_exec.specs.Coming.{fetched_row}
-use Rattle.scan_exec.specs.Kinds.{IsReadyNumber, rows_of}
+use Rattle.scan_exec.specs.work.Kinds.{IsReadyNumber, rows_of}
 use Rattle.scan_exec.proofs.BegunLemmas.{clauses_ready, fetched_are}
 use Rattle.pg_base.proofs.ListLemmas.{filter-map-is as filter_of_map}
 use Rattle.scan_exec.proofs.MovedLemmas.{moved}

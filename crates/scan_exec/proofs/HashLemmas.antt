@@ -12,7 +12,7 @@ use Rattle.pg_value.specs.declared.operators.Op.TheVariants.{Eq}
 use Rattle.pg_value.specs.declared.value.SqlType.{SqlType}
 use Rattle.pg_value.specs.declared.value.Value.{Value}
 use Rattle.pg_value.specs.declared.value.Value.TheVariants.{Null, Int, Bool as Flag, Text as String}
-use Rattle.pg_value.specs.Order.{IsOfFamily}
+use Rattle.pg_value.specs.work.Order.{IsOfFamily}
 use Rattle.pg_value.specs.Sorting.{IsInOrder, in_order}
 use Rattle.pg_value.specs.Truths.{is_true, truth_of_op}
 use Rattle.pg_value.proofs.SortingLemmas.{in_order_fixed}
@@ -29,20 +29,20 @@ use Rattle.pg_expr.specs.Typed.{some_value}
 use Rattle.pg_expr.proofs.PushedLaws.{IsDefined}
 use Rattle.eq_classes.proofs.HoldLemmas.{in_map}
 use Rattle.eq_classes.proofs.ListLemmas.{IsIn, Before, all_from, before_filter, earlier_in, in_filter, later_in, pairs_all}
-use Rattle.btree_index.specs.Bounds as tree
+use Rattle.btree_index.specs.work.Bounds as tree
 use Rattle.btree_index.specs.declared.bounds.Probe.{Probe}
 use Rattle.btree_index.specs.declared.bounds.Probe.TheVariants.{Bound}
-use Rattle.hash_index.specs.Held as held
-use Rattle.hash_index.specs.Held.{Held, IsKnown, held_order, rows_equal}
+use Rattle.hash_index.specs.work.Held as held
+use Rattle.hash_index.specs.work.Held.{Held, IsKnown, held_order, rows_equal}
 use Rattle.hash_index.proofs.HeldLemmas.{held_total, none_equal, ties_equal}
 use Rattle.index_match.specs.Conditions.{has_key_form, is_key_side, is_outside}
 use Rattle.catalog.specs.Indexes.{Index}
 use Rattle.heap.specs.Stored.{Values}
 use Rattle.plan_tree.specs.Entries.{entries_over, entry, meets_predicate, ordered}
-use Rattle.store.specs.Kept.{held_of}
+use Rattle.store.specs.work.Kept.{held_of}
 use Rattle.store.proofs.OrderLemmas.{filter-in_order}
-use Rattle.scan_probes.specs.Values.{Given, value_beside}
-use Rattle.scan_probes.specs.Probes.{column_of, compared_with, probe_of}
+use Rattle.scan_probes.specs.work.Values.{Given, value_beside}
+use Rattle.scan_probes.specs.work.Probes.{column_of, compared_with, probe_of}
 use Rattle.scan_probes.proofs.MeetLemmas.{meets_true, stands}
 use Rattle.opfamily.proofs.TableLemmas.{every_pair, implied}
 

@@ -14,7 +14,7 @@ use Rattle.opfamily.specs.KeyOrder.{IndexEntry}
 use Rattle.opfamily.specs.declared.classes.Method.{Method}
 use Rattle.opfamily.specs.declared.classes.Method.TheVariants.{Btree, Hash}
 use Rattle.pg_expr.specs.Cond.{Cond}
-use Rattle.heap.specs.TidSets.{TidSet, is_member, rows_passing}
+use Rattle.heap.specs.work.TidSets.{TidSet, is_member, rows_passing}
 use Rattle.heap.proofs.MemberLemmas.{member-those, those-none, those-same}
 use Rattle.catalog.specs.Contents.{Contents, index_at}
 use Rattle.catalog.specs.Indexes.{Index}
@@ -33,10 +33,10 @@ use Rattle.sql_query.specs.Worlds.{World}
 use Rattle.plan_tree.specs.Counts.{entries_met, index_looks}
 use Rattle.plan_tree.specs.Entries.{entries, entry_rows}
 use Rattle.plan_tree.specs.Run.{at_which}
-use Rattle.scan_probes.specs.Values.{Given}
-use Rattle.scan_exec.specs.Held.{IsMade, IsReadyMark, with_rows}
-use Rattle.scan_exec.specs.Kinds.{passes_entry}
-use Rattle.scan_exec.specs.Scene.{limits}
+use Rattle.scan_probes.specs.work.Values.{Given}
+use Rattle.scan_exec.specs.work.Held.{IsMade, IsReadyMark, with_rows}
+use Rattle.scan_exec.specs.work.Kinds.{passes_entry}
+use Rattle.scan_exec.specs.work.Scene.{limits}
 use Rattle.scan_exec.proofs.BegunLemmas.{by_number}
 use Rattle.pg_base.proofs.ListLemmas.{filter-map-is as filter_of_map}
 use Rattle.scan_exec.proofs.LimitLemmas.{AreByNumber, in_limits, limits_are, numbered_are, places_number}

@@ -27,7 +27,7 @@ use Rattle.pg_expr.specs.Columns.{each_column, passes_column}
 use Rattle.pg_expr.specs.Cond.{Cond, compare, is_null, is_not_null, bool_col, const, all_of, any_of, negation}
 use Rattle.pg_expr.proofs.ColumnLaws.{weaker-each}
 use Rattle.heap.specs.Stored.{Values}
-use Rattle.heap.specs.Tuples.{padded}
+use Rattle.heap.specs.work.Tuples.{padded}
 use Rattle.catalog.specs.Contents.{Contents, index_at}
 use Rattle.catalog.specs.Indexes.{Index, IsLawfulIndex}
 use Rattle.eq_classes.proofs.HoldLemmas.{in_map}
@@ -38,13 +38,13 @@ use Rattle.sql_query.specs.Queries.{Query, width}
 use Rattle.sql_query.specs.Tuples.{Tuple, beside, rows_of_relation}
 use Rattle.sql_query.specs.Worlds.{World, world}
 use Rattle.plan_tree.specs.Entries.{cell, entries_over, entry, meets_predicate, ordered}
-use Rattle.store.specs.Kept.{Kept}
-use Rattle.scan_probes.specs.Scenes.{AreReadyAtEntry, IsTestable}
-use Rattle.scan_probes.specs.Values as values
-use Rattle.scan_probes.specs.Values.{Given, are_true, has_entry_value, is_held, key_columns, value_among, value_beside, value_in, value_in_entry}
+use Rattle.store.specs.work.Kept.{Kept}
+use Rattle.scan_probes.specs.work.Scenes.{AreReadyAtEntry, IsTestable}
+use Rattle.scan_probes.specs.work.Values as values
+use Rattle.scan_probes.specs.work.Values.{Given, are_true, has_entry_value, is_held, key_columns, value_among, value_beside, value_in, value_in_entry}
 use Rattle.scan_probes.proofs.WorldLemmas.{fits, tested}
-use Rattle.scan_exec.specs.Kinds.{passes_entry}
-use Rattle.scan_exec.specs.Scene.{IsNear, IsScene, IsUsed}
+use Rattle.scan_exec.specs.work.Kinds.{passes_entry}
+use Rattle.scan_exec.specs.work.Scene.{IsNear, IsScene, IsUsed}
 use Rattle.scan_exec.proofs.NearLemmas.{all_recursive, over, testable_where}
 
 -- an entry of an index over some rows

@@ -9,7 +9,8 @@ use Rattle.pg_base.specs.declared.rel_set.RelSet.{RelSet}
 use Rattle.pg_base.proofs.SetLaws.{has-zero}
 use Rattle.pg_base.specs.declared.numbers.Tid.{Tid}
 use Rattle.heap.specs.Stored.{Stored}
-use Rattle.heap.specs.Tuples.{padded, rank, relation_count}
+use Rattle.heap.specs.Tuples.{rank, relation_count}
+use Rattle.heap.specs.work.Tuples.{padded}
 use Rattle.heap.proofs.RankLemmas.{rank-most, rank-out, rank-zero}
 use Rattle.catalog.specs.Contents.{Contents, index_at}
 use Rattle.sql_query.specs.Queries.{Query, width}
@@ -22,13 +23,14 @@ use Rattle.plan_tree.specs.Counts.{given_looks, looks, tree_looks}
 use Rattle.plan_tree.specs.Plans.{Plan, seq, index, index_only, bitmap, sort, nest, merge}
 use Rattle.plan_tree.specs.Run.{clauses_at, in_scan_direction, held}
 use Rattle.plan_tree.specs.Space.{IsBitmapScan, IsBuilt, IsIndexOnlyScan, IsIndexScan}
-use Rattle.plan_tree.specs.Views.{bits, plan}
-use Rattle.scan_exec.specs.Coming.{Coming, looks_allowed, bounded, coming, entry_row, index_coming}
-use Rattle.store.specs.Kept.{IsStoreOf, Kept}
-use Rattle.scan_probes.specs.Scenes.{AreRowsOf, IsOverWorld}
-use Rattle.scan_probes.specs.Values.{Given, tuple_given}
-use Rattle.scan_exec.specs.Scene.{IsScene}
-use Rattle.scan_exec.specs.Plans.{IsScan, param_set, relation_of}
+use Rattle.plan_tree.specs.work.Views.{bits, plan}
+use Rattle.scan_exec.specs.Coming.{Coming, bounded, coming, entry_row, index_coming}
+use Rattle.scan_exec.specs.work.Coming.{looks_allowed}
+use Rattle.store.specs.work.Kept.{IsStoreOf, Kept}
+use Rattle.scan_probes.specs.work.Scenes.{AreRowsOf, IsOverWorld}
+use Rattle.scan_probes.specs.work.Values.{Given, tuple_given}
+use Rattle.scan_exec.specs.work.Scene.{IsScene}
+use Rattle.scan_exec.specs.work.Plans.{IsScan, param_set, relation_of}
 use Rattle.scan_exec.proofs.ComingLemmas.{fetched_allowed, looked_rows}
 
 -- the reads of the rows given are within those that a plan allows for them

@@ -14,7 +14,7 @@ use Rattle.index_match.specs.Bounds.{bounding, bounds_among, is_fixing, on_key}
 use Rattle.index_match.specs.Conditions.{has_key_form}
 use Rattle.index_match.specs.Numbered.{Numbered, conditions_of, is_one_of_chosen, numbered, numbered_from_0}
 use Rattle.scan_probes.proofs.BoundsLemmas.{filter_of, find_of, in_conditions}
-use Rattle.scan_exec.specs.Scene.{limits}
+use Rattle.scan_exec.specs.work.Scene.{limits}
 
 -- bounds by the conditions alone
 abbrev going : Option Cond → List Cond → List Cond → List Cond

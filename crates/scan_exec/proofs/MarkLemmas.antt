@@ -15,15 +15,15 @@ use Rattle.opfamily.specs.declared.classes.Method.{Method}
 use Rattle.opfamily.specs.declared.classes.Method.TheVariants.{Btree, Hash}
 use Rattle.pg_expr.specs.Cond.{Cond}
 use Rattle.pg_expr.specs.declared.expr.Expr.{Expr}
-use Rattle.pg_expr.specs.View as view
+use Rattle.pg_expr.specs.work.View as view
 use Rattle.heap.specs.Stored.{Values}
-use Rattle.heap.specs.TidSets.{TidSet}
-use Rattle.heap.specs.Tuples.{padded}
+use Rattle.heap.specs.work.TidSets.{TidSet}
+use Rattle.heap.specs.work.Tuples.{padded}
 use Rattle.catalog.specs.Contents.{Contents, IsLawful, index_at, table_at}
 use Rattle.catalog.specs.Indexes.{Index}
 use Rattle.catalog.specs.Range.{Range, relation_at}
 use Rattle.eq_classes.proofs.ListLemmas.{IsIn, all_at, all_from, in_filter}
-use Rattle.btree_index.specs.Tree.{in_direction}
+use Rattle.btree_index.specs.work.Tree.{in_direction}
 use Rattle.index_match.specs.Arms.{arm_parts, is_matched, takes_parts}
 use Rattle.sql_query.specs.Meaning.{all_true}
 use Rattle.sql_query.specs.Queries.{Query, width}
@@ -33,12 +33,12 @@ use Rattle.plan_tree.specs.Bitmaps.{IsIndexOn}
 use Rattle.plan_tree.specs.Counts.{entries_met}
 use Rattle.plan_tree.specs.Entries.{entries, entry_rows}
 use Rattle.plan_tree.specs.Run.{at_which}
-use Rattle.store.specs.Kept.{Kept}
-use Rattle.scan_probes.specs.Filters as refs
-use Rattle.scan_probes.specs.Values.{Given}
-use Rattle.scan_exec.specs.Held.{IsReadyMark, with_rows}
-use Rattle.scan_exec.specs.Kinds.{passes_entry}
-use Rattle.scan_exec.specs.Scene.{AreUsed, IsScene, IsUsed, limits}
+use Rattle.store.specs.work.Kept.{Kept}
+use Rattle.scan_probes.specs.work.Filters as refs
+use Rattle.scan_probes.specs.work.Values.{Given}
+use Rattle.scan_exec.specs.work.Held.{IsReadyMark, with_rows}
+use Rattle.scan_exec.specs.work.Kinds.{passes_entry}
+use Rattle.scan_exec.specs.work.Scene.{AreUsed, IsScene, IsUsed, limits}
 use Rattle.scan_exec.proofs.EqualLemmas.{met_within, only_of}
 use Rattle.scan_exec.proofs.HeldLemmas.{part_looks, part_rows}
 use Rattle.scan_exec.proofs.IndexLemmas.{IsEntryAt, IsHeldNear, ready_entry, true_entry, used_held}

@@ -18,7 +18,7 @@ use Rattle.pg_expr.specs.Columns.{each_column}
 use Rattle.pg_expr.specs.Cond.{Cond}
 use Rattle.pg_expr.proofs.ColumnLaws.{weaker-each}
 use Rattle.heap.specs.Stored.{Values}
-use Rattle.heap.specs.Tuples.{padded}
+use Rattle.heap.specs.work.Tuples.{padded}
 use Rattle.heap.proofs.PaddingLemmas.{padded-inside}
 use Rattle.catalog.specs.Contents.{Contents, index_at, table_at}
 use Rattle.catalog.specs.Range.{relation_at, table_of}
@@ -32,22 +32,22 @@ use Rattle.scan_probes.specs.plan_laws_OverLemmas.{clauses_over}
 use Rattle.index_match.specs.Conditions.{allowed, index_conditions, is_condition}
 use Rattle.index_match.specs.Numbered.{Numbered, base, conditions_of, local, those}
 use Rattle.index_match.proofs.PartLemmas.{clauses_by_number}
-use Rattle.path_cost.specs.Columns.{IsOver, is_column_in}
+use Rattle.path_cost.specs.work.Columns.{IsOver, is_column_in}
 use Rattle.sql_query.specs.Meaning.{all_true}
 use Rattle.sql_query.specs.Queries.{Query, width}
 use Rattle.sql_query.specs.Tuples.{Tuple, beside, row_at, row_of, rows_of_relation}
 use Rattle.sql_query.specs.WellBound.{given_of}
 use Rattle.sql_query.specs.Worlds.{Holds, World, stored_at, world}
 use Rattle.plan_tree.specs.Run.{clauses_at, index_scan_conditions}
-use Rattle.store.specs.Kept.{Kept}
+use Rattle.store.specs.work.Kept.{Kept}
 use Rattle.store.proofs.FitLemmas.{wide}
 use Rattle.store.proofs.StoreLemmas.{holds}
-use Rattle.scan_probes.specs.Scenes.{AreReadyAtRow, IsOverWorld, IsTestable, binds_at, is_within}
-use Rattle.scan_probes.specs.Values as values
-use Rattle.scan_probes.specs.Values.{Given, are_true, has_value, is_beside, value_beside, value_in}
+use Rattle.scan_probes.specs.work.Scenes.{AreReadyAtRow, IsOverWorld, IsTestable, binds_at, is_within}
+use Rattle.scan_probes.specs.work.Values as values
+use Rattle.scan_probes.specs.work.Values.{Given, are_true, has_value, is_beside, value_beside, value_in}
 use Rattle.scan_probes.proofs.BoundsLemmas.{in_conditions}
 use Rattle.scan_probes.proofs.WorldLemmas.{each_both, fits, slot, tested}
-use Rattle.scan_exec.specs.Scene.{IsNear, IsScene, IsUsed}
+use Rattle.scan_exec.specs.work.Scene.{IsNear, IsScene, IsUsed}
 
 -- a condition of the clauses that pass a test is that of such a clause
 pub record IsOfClause (ks : List Clause) (test : Clause → Bool) (e : Cond) : Type 0 where

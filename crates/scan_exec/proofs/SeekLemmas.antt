@@ -27,14 +27,14 @@ use Rattle.pg_expr.specs.Cond.{Cond}
 use Rattle.pg_expr.specs.Typed.{IsTyped}
 use Rattle.pg_expr.proofs.ColumnLaws.{weaker-each}
 use Rattle.heap.specs.Stored.{Values}
-use Rattle.heap.specs.Tuples.{padded}
+use Rattle.heap.specs.work.Tuples.{padded}
 use Rattle.catalog.specs.Contents.{Contents, IsLawful, index_at, table_at}
 use Rattle.catalog.specs.Indexes.{Index, IsKeyOf, IsLawfulIndex}
 use Rattle.catalog.specs.Range.{relation_at, type_in}
 use Rattle.eq_classes.proofs.ListLemmas.{IsIn, all_at, all_from}
 use Rattle.scan_probes.specs.plan_laws_FitsLemmas.{values_fit}
-use Rattle.btree_index.specs.Bounds.{AreBounds, meets_all, key_value_at}
-use Rattle.btree_index.specs.Tree.{Tree, in_direction}
+use Rattle.btree_index.specs.work.Bounds.{AreBounds, meets_all, key_value_at}
+use Rattle.btree_index.specs.work.Tree.{Tree, in_direction}
 use Rattle.btree_index.specs.declared.bounds.Probe.{Probe}
 use Rattle.index_match.specs.Bounds.{bounding}
 use Rattle.index_match.specs.Numbered.{conditions_of, numbered_from_0}
@@ -44,16 +44,16 @@ use Rattle.sql_query.specs.Tuples.{Tuple, beside, row_at, row_of, rows_of_relati
 use Rattle.sql_query.specs.Worlds.{World, stored_at, world}
 use Rattle.plan_tree.specs.Bitmaps.{IsIndexOn}
 use Rattle.plan_tree.specs.Entries.{entries, entries_over}
-use Rattle.store.specs.Kept.{Built, Kept, built_by, built_of, sorted, tree_of}
+use Rattle.store.specs.work.Kept.{Built, Kept, built_by, built_of, sorted, tree_of}
 use Rattle.store.proofs.GrowthLemmas.{lawful-index}
 use Rattle.store.proofs.StoreLemmas.{built-at}
-use Rattle.scan_probes.specs.Probes.{AreKnown, AreOf, FitGiven, FitOwn, IsKeyTyped, is_known, probes_from}
-use Rattle.scan_probes.specs.Scenes.{binds_at}
-use Rattle.scan_probes.specs.Values as values
-use Rattle.scan_probes.specs.Values.{Given, are_true, is_beside, value_beside, value_in, row_value}
+use Rattle.scan_probes.specs.work.Probes.{AreKnown, AreOf, FitGiven, FitOwn, IsKeyTyped, is_known, probes_from}
+use Rattle.scan_probes.specs.work.Scenes.{binds_at}
+use Rattle.scan_probes.specs.work.Values as values
+use Rattle.scan_probes.specs.work.Values.{Given, are_true, is_beside, value_beside, value_in, row_value}
 use Rattle.scan_probes.proofs.LawLemmas.{conditions_bound, conditions_met, each_any}
 use Rattle.scan_probes.proofs.WorldLemmas.{row_beside, slot}
-use Rattle.scan_exec.specs.Scene.{AreUsed, IsNear, IsScene, IsUsed, limits}
+use Rattle.scan_exec.specs.work.Scene.{AreUsed, IsNear, IsScene, IsUsed, limits}
 use Rattle.scan_exec.proofs.IndexLemmas.{IsEntryAt, entries_at}
 use Rattle.scan_exec.proofs.LimitLemmas.{in_limits, numbered_are}
 use Rattle.scan_exec.proofs.NearLemmas.{all_recursive, over, testable_where, true_at}

@@ -6,10 +6,11 @@ use Rattle.catalog.specs.Contents.{Contents}
 use Rattle.catalog.specs.Range.{Range}
 use Rattle.heap.specs.Stored.{Values}
 use Rattle.pg_expr.specs.Cond.{Cond}
-use Rattle.scan_probes.specs.Scenes.{AreReadyAtRow}
-use Rattle.scan_probes.specs.Values.{Given}
-use Rattle.scan_exec.specs.Coming.{Coming, looks_allowed, behind, is_given, owed}
-use Rattle.scan_exec.specs.Kinds.{fetched_at, passes_row, rows_from}
+use Rattle.scan_probes.specs.work.Scenes.{AreReadyAtRow}
+use Rattle.scan_probes.specs.work.Values.{Given}
+use Rattle.scan_exec.specs.Coming.{Coming, is_given, owed}
+use Rattle.scan_exec.specs.work.Coming.{looks_allowed, behind}
+use Rattle.scan_exec.specs.work.Kinds.{fetched_at, passes_row, rows_from}
 use Rattle.scan_exec.proofs.DrawLemmas.{IsOnward, onward_by, onward_here, found_here, behind_here, fetched_on}
 
 -- a scan at the row of a number, begun at a list

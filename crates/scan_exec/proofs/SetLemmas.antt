@@ -10,9 +10,9 @@ use Rattle.pg_base.specs.declared.numbers.IndexNo.{IndexNo}
 use Rattle.pg_base.specs.declared.numbers.RelNo.{RelNo}
 use Rattle.pg_base.specs.declared.rel_set.RelSet.{RelSet}
 use Rattle.pg_expr.specs.Cond.{Cond}
-use Rattle.pg_expr.specs.View as view
+use Rattle.pg_expr.specs.work.View as view
 use Rattle.pg_expr.specs.declared.expr.Expr.{Expr}
-use Rattle.heap.specs.TidSets.{TidSet, is_member, rows_passing}
+use Rattle.heap.specs.work.TidSets.{TidSet, is_member, rows_passing}
 use Rattle.heap.proofs.MemberLemmas.{member-those, those-none, those-same}
 use Rattle.catalog.specs.Contents.{index_at}
 use Rattle.index_match.specs.Arms.{arms_of, arm_bounds, arm_parts, takes_parts}
@@ -27,10 +27,10 @@ use Rattle.plan_tree.specs.Counts.{all_tree_looks, arm_looks, entries_met, index
 use Rattle.plan_tree.specs.Entries.{entry_rows}
 use Rattle.plan_tree.specs.Plans.{BitTree, leaf, all_hold, some_arm, BitTrees, no_trees, tree_and}
 use Rattle.plan_tree.specs.Run.{all_hold_row, at_which, index_scan_conditions, holds, some_holds}
-use Rattle.plan_tree.specs.Views.{bits, bits_all}
-use Rattle.scan_probes.specs.Filters as refs
-use Rattle.scan_exec.specs.Held.{AreHeldTrees, IsHeldTree, IsMade, set_held, with_arms, with_rows}
-use Rattle.scan_exec.specs.Scene.{limits}
+use Rattle.plan_tree.specs.work.Views.{bits, bits_all}
+use Rattle.scan_probes.specs.work.Filters as refs
+use Rattle.scan_exec.specs.work.Held.{AreHeldTrees, IsHeldTree, IsMade, set_held, with_arms, with_rows}
+use Rattle.scan_exec.specs.work.Scene.{limits}
 use Rattle.scan_exec.proofs.HeldLemmas.{arm_looks_are, index_looks_are, made_those, made_with}
 use Rattle.scan_exec.proofs.TreeLemmas.{takes_own}
 

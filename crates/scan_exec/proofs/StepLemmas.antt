@@ -8,10 +8,11 @@ use Rattle.catalog.specs.Range.{Range}
 use Rattle.heap.specs.Stored.{Values}
 use Rattle.opfamily.specs.KeyOrder.{IndexEntry}
 use Rattle.pg_expr.specs.Cond.{Cond}
-use Rattle.scan_probes.specs.Scenes.{AreReadyAtEntry, AreReadyAtRow}
-use Rattle.scan_probes.specs.Values.{Given}
-use Rattle.scan_exec.specs.Coming.{Coming, looks_allowed, behind, is_given, owed}
-use Rattle.scan_exec.specs.Kinds.{covered_at, entry_at, fetched_at, passes_entry, passes_row, rows_of}
+use Rattle.scan_probes.specs.work.Scenes.{AreReadyAtEntry, AreReadyAtRow}
+use Rattle.scan_probes.specs.work.Values.{Given}
+use Rattle.scan_exec.specs.Coming.{Coming, is_given, owed}
+use Rattle.scan_exec.specs.work.Coming.{looks_allowed, behind}
+use Rattle.scan_exec.specs.work.Kinds.{covered_at, entry_at, fetched_at, passes_entry, passes_row, rows_of}
 use Rattle.scan_exec.proofs.DrawLemmas.{IsOnward, onward_by, found_here, behind_here, fetched_on, looked_on}
 
 -- the row of a list is that at its number

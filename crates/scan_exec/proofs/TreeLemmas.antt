@@ -17,7 +17,7 @@ use Rattle.pg_expr.specs.declared.expr.Expr.{Expr}
 use Rattle.pg_expr.specs.Columns.{each_column, each_column_of}
 use Rattle.pg_expr.specs.Cond.{Cond, compare, is_null, is_not_null, bool_col, const, all_of, any_of, negation, Conds, no_conds, cond_and}
 use Rattle.pg_expr.specs.Typed.{AreTyped}
-use Rattle.pg_expr.specs.View as view
+use Rattle.pg_expr.specs.work.View as view
 use Rattle.catalog.specs.Contents.{Contents, index_at, indexes_of}
 use Rattle.catalog.specs.Range.{type_in}
 use Rattle.eq_classes.specs.Classes.{listed}
@@ -29,17 +29,17 @@ use Rattle.eq_classes.proofs.ListLemmas.{IsIn, all_from, in_filter}
 use Rattle.index_match.specs.Arms.{arm_parts, arms_of, is_matched, takes_parts}
 use Rattle.index_match.specs.Conditions.{allowed, is_condition}
 use Rattle.index_match.specs.Numbered.{Numbered, conditions_of, local, numbered}
-use Rattle.path_cost.specs.Columns.{is_column_in}
+use Rattle.path_cost.specs.work.Columns.{is_column_in}
 use Rattle.sql_query.specs.Queries.{Query}
 use Rattle.plan_tree.specs.Bitmaps.{ArePicked, Element, IsBitTree, IsElement, HasArms, HaveArms, MOST_ELEMENTS, MatchesArm, by_clause, by_index, candidates, condition_at, element_of, elements_of, none_left, passed, picked, table_of_relation}
 use Rattle.plan_tree.specs.Plans.{BitTree, leaf, all_hold, some_arm, BitTrees, no_trees, tree_and}
 use Rattle.plan_tree.proofs.CostableLemmas.{In, in-contained, in-masked, in-picked, in-taken, index-listed}
 use Rattle.plan_tree.proofs.ElementLemmas.{condition-here, listed-on}
-use Rattle.store.specs.Kept.{Kept}
-use Rattle.scan_probes.specs.Values.{Given}
+use Rattle.store.specs.work.Kept.{Kept}
+use Rattle.scan_probes.specs.work.Values.{Given}
 use Rattle.scan_probes.proofs.BoundsLemmas.{in_conditions}
-use Rattle.scan_exec.specs.Held.{AreHeldTrees, HasTree, IsHeldTree}
-use Rattle.scan_exec.specs.Scene.{IsNear, IsScene, IsUsed}
+use Rattle.scan_exec.specs.work.Held.{AreHeldTrees, HasTree, IsHeldTree}
+use Rattle.scan_exec.specs.work.Scene.{IsNear, IsScene, IsUsed}
 use Rattle.scan_exec.proofs.LimitLemmas.{places_number}
 use Rattle.scan_exec.proofs.NearLemmas.{clauses_near}
 use Rattle.plan_tree.proofs.PickedLemmas.{holds-picked as holds_picked}

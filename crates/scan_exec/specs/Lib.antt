@@ -1,10 +1,5 @@
 pub mod Coming
-pub mod Plans
-pub mod Kinds
-pub mod Scene
-pub mod Rows
-pub mod Held
-pub mod AtScene
-pub mod Handed
+pub mod work
 -- What callers name of the crates below.
 pub use Rattle.store.specs.Kept as store_Kept
+pub use Rattle.store.specs.work.Kept as store_work_Kept

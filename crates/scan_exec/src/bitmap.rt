@@ -2,21 +2,21 @@
 
 ghost use Rattle.std.specs.Prelude.{◌≡◌, ◌<◌, ◌≤◌, ◌+◌, All, IfOk, OnOk, length, map, nat_lt, true};
 ghost use Rattle.std.specs.List.{AllByRecursion};
-ghost use Rattle.pg_expr.specs.View as view;
+ghost use Rattle.pg_expr.specs.work.View as view;
 ghost use Rattle.opfamily.specs.declared.classes.Method.TheVariants.{Btree};
-ghost use Rattle.heap.specs.TidSets.{TidSet};
+ghost use Rattle.heap.specs.work.TidSets.{TidSet};
 ghost use Rattle.catalog.specs.Contents.{index_at};
 ghost use Rattle.index_match.specs.Arms.{arm_parts, takes_parts};
 ghost use Rattle.index_match.specs.Conditions.{index_conditions};
-ghost use Rattle.scan_probes.specs.Filters.{lent_conditions};
+ghost use Rattle.scan_probes.specs.work.Filters.{lent_conditions};
 ghost use Rattle.plan_tree.specs.Bitmaps.{IsIndexOn, MatchesArm};
 ghost use Rattle.plan_tree.specs.Plans as plans;
 ghost use Rattle.plan_tree.specs.Run.{met, some_holds, all_hold_row, holds, held as held_rows};
-ghost use Rattle.plan_tree.specs.Views.{bits, bits_all};
-ghost use Rattle.store.specs.Kept.{hashed};
-ghost use Rattle.scan_exec.specs.Held.{AreReadyMarks, IsMade, passed_rows, with_rows};
-ghost use Rattle.scan_exec.specs.Scene.{IsSceneOf};
-ghost use Rattle.scan_exec.specs.AtScene.{AreSceneTrees, AreUsedThere, IsNearScene, IsSceneBitmap, IsSceneTree, MatchArms, arms_looks, bitmap_rows, bound_looks, leaf_looks, rows_meeting, scene_held, scene_index, scene_rows, scene_tree_looks, trees_looks, with_scene_arms};
+ghost use Rattle.plan_tree.specs.work.Views.{bits, bits_all};
+ghost use Rattle.store.specs.work.Kept.{hashed};
+ghost use Rattle.scan_exec.specs.work.Held.{AreReadyMarks, IsMade, passed_rows, with_rows};
+ghost use Rattle.scan_exec.specs.work.Scene.{IsSceneOf};
+ghost use Rattle.scan_exec.specs.work.AtScene.{AreSceneTrees, AreUsedThere, IsNearScene, IsSceneBitmap, IsSceneTree, MatchArms, arms_looks, bitmap_rows, bound_looks, leaf_looks, rows_meeting, scene_held, scene_index, scene_rows, scene_tree_looks, trees_looks, with_scene_arms};
 
 use crate::hashed::rows_equal;
 use crate::index::{seek, sorted_index};

@@ -2,16 +2,16 @@
 
 ghost use Rattle.std.specs.Prelude.{◌≡◌, ◌+◌, ◌≤◌, ℕ, IfOk, OnOk, nat_eq};
 ghost use Rattle.pg_base.specs.Sets.{has};
-ghost use Rattle.heap.specs.Tuples.{padded_tuples};
+ghost use Rattle.heap.specs.work.Tuples.{padded_tuples};
 ghost use Rattle.sql_query.specs.Queries.{width};
 ghost use Rattle.sql_query.specs.WellBound.{IsWellBound};
 ghost use Rattle.sql_query.specs.Worlds.{world};
 ghost use Rattle.plan_tree.specs.Space.{IsBuilt};
-ghost use Rattle.plan_tree.specs.Views.{plan};
-ghost use Rattle.store.specs.Kept.{IsStoreOf};
-ghost use Rattle.scan_exec.specs.Plans as plans;
-ghost use Rattle.scan_exec.specs.Plans.{IsScan};
-ghost use Rattle.scan_exec.specs.Handed.{AreHanded, handed_fetches, handed_looks, handed_run};
+ghost use Rattle.plan_tree.specs.work.Views.{plan};
+ghost use Rattle.store.specs.work.Kept.{IsStoreOf};
+ghost use Rattle.scan_exec.specs.work.Plans as plans;
+ghost use Rattle.scan_exec.specs.work.Plans.{IsScan};
+ghost use Rattle.scan_exec.specs.work.Handed.{AreHanded, handed_fetches, handed_looks, handed_run};
 
 use crate::rows::{ScanRows, relation_of};
 use catalog::Catalog;

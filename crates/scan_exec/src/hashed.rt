@@ -1,11 +1,11 @@
 //! Scans of a hash index, begun from the condition of the index.
 
 ghost use Rattle.std.specs.Prelude.{◌≡◌, ◌∷◌, [], IfOk, map};
-ghost use Rattle.pg_expr.specs.View.{cond};
+ghost use Rattle.pg_expr.specs.work.View.{cond};
 ghost use Rattle.plan_tree.specs.Bitmaps.{IsIndexOn};
-ghost use Rattle.store.specs.Kept.{hashed};
-ghost use Rattle.scan_exec.specs.Scene.{IsSceneOf};
-ghost use Rattle.scan_exec.specs.AtScene.{HasIndexCondition, IsUsedThere, hash_scan_rows, rows_meeting, scene_index};
+ghost use Rattle.store.specs.work.Kept.{hashed};
+ghost use Rattle.scan_exec.specs.work.Scene.{IsSceneOf};
+ghost use Rattle.scan_exec.specs.work.AtScene.{HasIndexCondition, IsUsedThere, hash_scan_rows, rows_meeting, scene_index};
 
 use crate::numbers::HashRows;
 use crate::scene::Scene;

@@ -2,14 +2,14 @@
 
 ghost use Rattle.std.specs.Prelude.{◌≡◌, IfOk, false, true};
 ghost use Rattle.opfamily.specs.declared.classes.Method.TheVariants.{Btree};
-ghost use Rattle.btree_index.specs.Tree.{in_direction};
+ghost use Rattle.btree_index.specs.work.Tree.{in_direction};
 ghost use Rattle.catalog.specs.Contents.{index_at};
 ghost use Rattle.plan_tree.specs.Bitmaps.{IsIndexOn};
 ghost use Rattle.plan_tree.specs.Space.{IsIndexOnlyScan, IsIndexScan};
-ghost use Rattle.store.specs.Kept.{sorted};
-ghost use Rattle.scan_probes.specs.Values.{Given as Rows};
-ghost use Rattle.scan_exec.specs.Scene.{IsSceneOf};
-ghost use Rattle.scan_exec.specs.AtScene.{AreUsedThere, entries_within, scene_index, tree_rows};
+ghost use Rattle.store.specs.work.Kept.{sorted};
+ghost use Rattle.scan_probes.specs.work.Values.{Given as Rows};
+ghost use Rattle.scan_exec.specs.work.Scene.{IsSceneOf};
+ghost use Rattle.scan_exec.specs.work.AtScene.{AreUsedThere, entries_within, scene_index, tree_rows};
 
 use crate::scene::Scene;
 use crate::sorted::{IndexRows, OnlyRows};

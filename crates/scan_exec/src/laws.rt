@@ -8,8 +8,9 @@ ghost use Rattle.plan_tree.specs.Counts.{fetches, given_looks, looks};
 ghost use Rattle.plan_tree.specs.Plans.{Plan};
 ghost use Rattle.plan_tree.specs.Run.{run};
 ghost use Rattle.plan_tree.specs.Space.{IsBuilt};
-ghost use Rattle.scan_exec.specs.Coming.{looks_allowed, coming, rows_to_come, owed};
-ghost use Rattle.scan_exec.specs.Plans.{IsScan, param_set, relation_of};
+ghost use Rattle.scan_exec.specs.Coming.{coming, owed};
+ghost use Rattle.scan_exec.specs.work.Coming.{looks_allowed, rows_to_come};
+ghost use Rattle.scan_exec.specs.work.Plans.{IsScan, param_set, relation_of};
 
 /// Of the rows that a scan comes to those that are given are the rows of its plan, the fetched ones are its fetches, and its
 /// looks allow one for each entry beside those at the rows that it is given.

@@ -2,8 +2,9 @@
 
 ghost use Rattle.std.specs.Prelude.{◌≡◌, ◌+◌, ◌≤◌, length, option_map};
 ghost use Rattle.pg_base.specs.declared.limits.TheConstants.{MOST_ROWS};
-ghost use Rattle.scan_exec.specs.Coming.{looks_allowed, behind, first_given, is_given, owed};
-ghost use Rattle.scan_exec.specs.Kinds.{AreReadyNumbers, AreReadyRows, rows_of_set, rows_of_tids};
+ghost use Rattle.scan_exec.specs.Coming.{is_given, owed};
+ghost use Rattle.scan_exec.specs.work.Coming.{looks_allowed, behind, first_given};
+ghost use Rattle.scan_exec.specs.work.Kinds.{AreReadyNumbers, AreReadyRows, rows_of_set, rows_of_tids};
 
 use heap::{Counters, Heap, Tids};
 use pg_base::{Steps, Tid};
@@ -35,9 +36,9 @@ impl<'a, C: Counters> Drop for HashRows<'a, C> {
 
 impl<'a, C: Counters> Model for HashRows<'a, C> {
     ghost use Rattle.std.specs.Prelude.{List, All, map};
-    ghost use Rattle.scan_probes.specs.Filters.{lent_conditions};
+    ghost use Rattle.scan_probes.specs.work.Filters.{lent_conditions};
     ghost use Rattle.scan_exec.specs.Coming.{Coming};
-    ghost use Rattle.scan_exec.specs.Kinds.{IsReadyNumber, rows_of};
+    ghost use Rattle.scan_exec.specs.work.Kinds.{IsReadyNumber, rows_of};
 
     ghost Value = { List Coming };
 
@@ -113,11 +114,11 @@ impl<'a, C: Counters> Drop for BitRows<'a, C> {
 impl<'a, C: Counters> Model for BitRows<'a, C> {
     ghost use Rattle.std.specs.Prelude.{List, All, ◌≡◌, ◌≤◌, length};
     ghost use Rattle.pg_base.specs.declared.limits.TheConstants.{MOST_ROWS};
-    ghost use Rattle.heap.specs.TidSets.{not_below};
-    ghost use Rattle.scan_probes.specs.Filters.{lent_conditions};
-    ghost use Rattle.scan_probes.specs.Scenes.{AreReadyAtRow};
+    ghost use Rattle.heap.specs.work.TidSets.{not_below};
+    ghost use Rattle.scan_probes.specs.work.Filters.{lent_conditions};
+    ghost use Rattle.scan_probes.specs.work.Scenes.{AreReadyAtRow};
     ghost use Rattle.scan_exec.specs.Coming.{Coming};
-    ghost use Rattle.scan_exec.specs.Kinds.{rows_of};
+    ghost use Rattle.scan_exec.specs.work.Kinds.{rows_of};
 
     ghost Value = { List Coming };
 

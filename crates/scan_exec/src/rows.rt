@@ -4,15 +4,16 @@ ghost use Rattle.std.specs.Prelude.{◌≡◌, ◌+◌, ◌≤◌, IfOk, OnErr, 
 ghost use Rattle.sql_query.specs.WellBound.{IsWellBound};
 ghost use Rattle.sql_query.specs.Worlds.{world};
 ghost use Rattle.plan_tree.specs.Space.{IsBuilt, IsIndexScan};
-ghost use Rattle.plan_tree.specs.Views.{plan};
-ghost use Rattle.store.specs.Kept.{IsStoreOf};
-ghost use Rattle.scan_exec.specs.Coming.{looks_allowed, behind, first_given, is_given, owed};
-ghost use Rattle.scan_exec.specs.Plans as plans;
-ghost use Rattle.scan_exec.specs.Plans.{IsScan};
-ghost use Rattle.scan_exec.specs.Rows.{rows_of_kind};
-ghost use Rattle.scan_exec.specs.Scene.{IsSceneOf};
-ghost use Rattle.scan_exec.specs.Handed.{AreHanded, handed_coming, handed_looks};
-ghost use Rattle.scan_exec.specs.AtScene.{index_scan_rows, outer_looks, scene_coming, scene_looks};
+ghost use Rattle.plan_tree.specs.work.Views.{plan};
+ghost use Rattle.store.specs.work.Kept.{IsStoreOf};
+ghost use Rattle.scan_exec.specs.Coming.{is_given, owed};
+ghost use Rattle.scan_exec.specs.work.Coming.{looks_allowed, behind, first_given};
+ghost use Rattle.scan_exec.specs.work.Plans as plans;
+ghost use Rattle.scan_exec.specs.work.Plans.{IsScan};
+ghost use Rattle.scan_exec.specs.work.Rows.{rows_of_kind};
+ghost use Rattle.scan_exec.specs.work.Scene.{IsSceneOf};
+ghost use Rattle.scan_exec.specs.work.Handed.{AreHanded, handed_coming, handed_looks};
+ghost use Rattle.scan_exec.specs.work.AtScene.{index_scan_rows, outer_looks, scene_coming, scene_looks};
 
 use crate::bitmap::bit_rows;
 use crate::hashed::hash_rows;
@@ -58,7 +59,7 @@ impl<'a, C: Counters> Model for ScanRows<'a, C> {
 
     ghost Value = { List Coming };
 
-    ghost use Rattle.scan_exec.specs.Rows.{rows_of_kind};
+    ghost use Rattle.scan_exec.specs.work.Rows.{rows_of_kind};
 
     ghost view = { λ s. rows_of_kind s.kind };
 }

@@ -2,13 +2,13 @@
 
 ghost use Rattle.std.specs.Prelude.{◌≡◌, ◌<◌, ◌≤◌, ◌&&◌, ◌||◌, ℕ, IfOk, length, nat_lt};
 ghost use Rattle.pg_base.specs.declared.limits.TheConstants.{MOST_ROWS};
-ghost use Rattle.pg_expr.specs.AtomSets.{contains};
-ghost use Rattle.scan_probes.specs.Filters.{lent_conditions};
+ghost use Rattle.pg_expr.specs.work.AtomSets.{contains};
+ghost use Rattle.scan_probes.specs.work.Filters.{lent_conditions};
 ghost use Rattle.sql_query.specs.Queries.{width};
 ghost use Rattle.plan_tree.specs.Bitmaps.{IsIndexOn};
-ghost use Rattle.scan_probes.specs.Values.{Given as Rows};
-ghost use Rattle.scan_exec.specs.Scene.{IsSceneOf};
-ghost use Rattle.scan_exec.specs.AtScene.{scene_base, scene_clauses, scene_conditions, scene_rows};
+ghost use Rattle.scan_probes.specs.work.Values.{Given as Rows};
+ghost use Rattle.scan_exec.specs.work.Scene.{IsSceneOf};
+ghost use Rattle.scan_exec.specs.work.AtScene.{scene_base, scene_clauses, scene_conditions, scene_rows};
 
 use catalog::Catalog;
 use eq_classes::{ClauseSet, note};

@@ -2,10 +2,11 @@
 
 ghost use Rattle.std.specs.Prelude.{◌≡◌, ◌+◌, IfOk, option_map};
 ghost use Rattle.plan_tree.specs.Plans.{seq};
-ghost use Rattle.scan_exec.specs.Coming.{looks_allowed, behind, first_given, is_given, owed};
-ghost use Rattle.scan_exec.specs.Scene.{IsSceneOf};
-ghost use Rattle.scan_exec.specs.Kinds.{AreReadyRows, rows_of_heap};
-ghost use Rattle.scan_exec.specs.AtScene.{scene_coming};
+ghost use Rattle.scan_exec.specs.Coming.{is_given, owed};
+ghost use Rattle.scan_exec.specs.work.Coming.{looks_allowed, behind, first_given};
+ghost use Rattle.scan_exec.specs.work.Scene.{IsSceneOf};
+ghost use Rattle.scan_exec.specs.work.Kinds.{AreReadyRows, rows_of_heap};
+ghost use Rattle.scan_exec.specs.work.AtScene.{scene_coming};
 
 use crate::scene::Scene;
 use heap::{Counters, Heap};
@@ -38,10 +39,10 @@ impl<'a, C: Counters> Drop for SeqRows<'a, C> {
 
 impl<'a, C: Counters> Model for SeqRows<'a, C> {
     ghost use Rattle.std.specs.Prelude.{List, All, ◌≤◌, length};
-    ghost use Rattle.scan_probes.specs.Filters.{lent_conditions};
-    ghost use Rattle.scan_probes.specs.Scenes.{AreReadyAtRow};
+    ghost use Rattle.scan_probes.specs.work.Filters.{lent_conditions};
+    ghost use Rattle.scan_probes.specs.work.Scenes.{AreReadyAtRow};
     ghost use Rattle.scan_exec.specs.Coming.{Coming};
-    ghost use Rattle.scan_exec.specs.Kinds.{rows_from};
+    ghost use Rattle.scan_exec.specs.work.Kinds.{rows_from};
 
     ghost Value = { List Coming };
 

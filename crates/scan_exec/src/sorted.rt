@@ -1,8 +1,9 @@
 //! Scans of B-tree indexes.
 
 ghost use Rattle.std.specs.Prelude.{◌≡◌, ◌+◌, option_map};
-ghost use Rattle.scan_exec.specs.Coming.{looks_allowed, behind, first_given, is_given, owed};
-ghost use Rattle.scan_exec.specs.Kinds.{AreReadyCovers, AreReadyEntries, covered_rows, rows_of_entries};
+ghost use Rattle.scan_exec.specs.Coming.{is_given, owed};
+ghost use Rattle.scan_exec.specs.work.Coming.{looks_allowed, behind, first_given};
+ghost use Rattle.scan_exec.specs.work.Kinds.{AreReadyCovers, AreReadyEntries, covered_rows, rows_of_entries};
 
 use btree_index::Cursor;
 use catalog::IndexDef;
@@ -40,10 +41,10 @@ impl<'a, C: Counters> Drop for IndexRows<'a, C> {
 
 impl<'a, C: Counters> Model for IndexRows<'a, C> {
     ghost use Rattle.std.specs.Prelude.{List, All, map};
-    ghost use Rattle.catalog.specs.Entries.{index_of};
-    ghost use Rattle.scan_probes.specs.Filters.{lent_conditions};
+    ghost use Rattle.catalog.specs.work.Entries.{index_of};
+    ghost use Rattle.scan_probes.specs.work.Filters.{lent_conditions};
     ghost use Rattle.scan_exec.specs.Coming.{Coming};
-    ghost use Rattle.scan_exec.specs.Kinds.{IsReadyEntry, entry_at};
+    ghost use Rattle.scan_exec.specs.work.Kinds.{IsReadyEntry, entry_at};
 
     ghost Value = { List Coming };
 
@@ -131,10 +132,10 @@ impl<'a, C: Counters> Drop for OnlyRows<'a, C> {
 
 impl<'a, C: Counters> Model for OnlyRows<'a, C> {
     ghost use Rattle.std.specs.Prelude.{List, All, map};
-    ghost use Rattle.catalog.specs.Entries.{index_of};
-    ghost use Rattle.scan_probes.specs.Filters.{lent_conditions};
+    ghost use Rattle.catalog.specs.work.Entries.{index_of};
+    ghost use Rattle.scan_probes.specs.work.Filters.{lent_conditions};
     ghost use Rattle.scan_exec.specs.Coming.{Coming};
-    ghost use Rattle.scan_exec.specs.Kinds.{IsReadyCover, covered_at};
+    ghost use Rattle.scan_exec.specs.work.Kinds.{IsReadyCover, covered_at};
 
     ghost Value = { List Coming };
 

@@ -21,10 +21,10 @@ use Rattle.index_match.specs.Conditions.{allowed, index_conditions, is_condition
 use Rattle.index_match.specs.Numbered.{Numbered, conditions_of, numbered}
 use Rattle.path_cost.specs.Estimates.{conditions_from}
 use Rattle.sql_query.specs.Queries.{Query}
-use Rattle.plan_tree.specs.Paths.{Path}
+use Rattle.plan_tree.specs.work.Paths.{Path}
 use Rattle.plan_tree.specs.Space.{IsIndexScan, others_named}
-use Rattle.scan_paths.specs.Reached.{AreReachedBy, IsReach, IsReached}
-use Rattle.scan_paths.specs.Scans.{IsIndexServed}
+use Rattle.scan_paths.specs.work.Reached.{AreReachedBy, IsReach, IsReached}
+use Rattle.scan_paths.specs.work.Scans.{IsIndexServed}
 use Rattle.scan_paths.specs.declared.reached.Reached.{Reached}
 use Rattle.scan_paths.proofs.SpaceLemmas.{forward-built}
 use Rattle.pg_base.proofs.ListLemmas.{any-take as any-first}

@@ -10,7 +10,7 @@ use Rattle.pg_base.specs.declared.numbers.RelNo.{RelNo}
 use Rattle.pg_base.specs.declared.rel_set.RelSet.{RelSet}
 use Rattle.pg_base.proofs.SetLaws.{has-zero, same_set}
 use Rattle.catalog.specs.Contents.{Contents, index_at, indexes_of}
-use Rattle.cost_rules.specs.Costs.{capped_pair}
+use Rattle.cost_rules.specs.work.Costs.{capped_pair}
 use Rattle.eq_classes.specs.Clauses.{one}
 use Rattle.index_match.specs.Conditions.{is_hash}
 use Rattle.sql_query.specs.Queries.{Query}
@@ -18,9 +18,9 @@ use Rattle.plan_tree.specs.Plans.{Plan, seq, index, index_only, bitmap, sort, ne
 use Rattle.plan_tree.specs.Bitmaps.{IsIndexOn, table_of_relation}
 use Rattle.plan_tree.specs.Space.{AreSides, IsBuilt, IsPlanOf, IsSameSet, may_go}
 use Rattle.plan_tree.specs.Costs.{cost, scan_cost}
-use Rattle.plan_tree.specs.Paths.{Path}
-use Rattle.plan_tree.specs.Fronts.{AreDominated, IsServed, is_no_bitmap}
-use Rattle.scan_paths.specs.Scans.{IsIndexServed, tree_by}
+use Rattle.plan_tree.specs.work.Paths.{Path}
+use Rattle.plan_tree.specs.work.Fronts.{AreDominated, IsServed, is_no_bitmap}
+use Rattle.scan_paths.specs.work.Scans.{IsIndexServed, tree_by}
 use Rattle.scan_paths.proofs.IndexLemmas.{index-listed}
 use Rattle.plan_tree.proofs.SetLemmas.{reads-some}
 

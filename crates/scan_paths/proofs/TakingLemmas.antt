@@ -10,10 +10,10 @@ use Rattle.catalog.specs.Contents.{Contents}
 use Rattle.eq_classes.specs.Clauses.{one}
 use Rattle.sql_query.specs.Queries.{Query}
 use Rattle.plan_tree.specs.Plans.{Plan}
-use Rattle.plan_tree.specs.Paths.{Path}
-use Rattle.plan_tree.specs.Fronts.{ArePathsOf, IsOffer, IsServed, StayDominated, is_no_bitmap}
+use Rattle.plan_tree.specs.work.Paths.{Path}
+use Rattle.plan_tree.specs.work.Fronts.{ArePathsOf, IsOffer, IsServed, StayDominated, is_no_bitmap}
 use Rattle.plan_tree.proofs.FrontLemmas.{old-stay}
-use Rattle.scan_paths.specs.Scans.{AreIndexesServed, IsIndexServed, TakesScans}
+use Rattle.scan_paths.specs.work.Scans.{AreIndexesServed, IsIndexServed, TakesScans}
 use Rattle.scan_paths.specs.declared.reached.Reached.{Reached}
 
 pub either-way : (P : Bool → Type 0) → P false → P true → (b : Bool) → P b

@@ -6,12 +6,12 @@ ghost use Rattle.catalog.specs.Contents.{IsIndex, index_at};
 ghost use Rattle.index_match.specs.Conditions.{is_hash};
 ghost use Rattle.sql_query.specs.Queries.{width};
 ghost use Rattle.plan_tree.specs.Bitmaps.{IsIndexOn};
-ghost use Rattle.plan_tree.specs.Fronts.{ArePathsOf};
-ghost use Rattle.plan_tree.specs.Reads.{IsOverTables};
+ghost use Rattle.plan_tree.specs.work.Fronts.{ArePathsOf};
+ghost use Rattle.plan_tree.specs.work.Reads.{IsOverTables};
 ghost use Rattle.plan_tree.specs.Space.{IsBuilt, may_go};
-ghost use Rattle.plan_tree.specs.Views.{path, plan};
-ghost use Rattle.scan_paths.specs.Scans.{tree_of, OffersScans, AreWaysServed, IsIndexServedBy, scan_keys_of};
-ghost use Rattle.plan_tree.specs.Lists.{IsServedBy};
+ghost use Rattle.plan_tree.specs.work.Views.{path, plan};
+ghost use Rattle.scan_paths.specs.work.Scans.{tree_of, OffersScans, AreWaysServed, IsIndexServedBy, scan_keys_of};
+ghost use Rattle.plan_tree.specs.work.Lists.{IsServedBy};
 
 use catalog::Catalog;
 use opfamily::Method;

@@ -2,15 +2,16 @@
 
 ghost use Rattle.std.specs.Prelude.{◌≡◌, ◌<◌, ℕ, All, IfOk, length};
 ghost use Rattle.pg_base.specs.Sets.{has};
-ghost use Rattle.pg_expr.specs.AtomSets.{contains};
-ghost use Rattle.pg_expr.specs.View.{cond};
+ghost use Rattle.pg_expr.specs.work.AtomSets.{contains};
+ghost use Rattle.pg_expr.specs.work.View.{cond};
 ghost use Rattle.catalog.specs.Contents.{IsIndex};
-ghost use Rattle.catalog.specs.Entries.{index_of};
+ghost use Rattle.catalog.specs.work.Entries.{index_of};
 ghost use Rattle.index_match.specs.Conditions as forms;
+ghost use Rattle.index_match.specs.work.Conditions as forms_work;
 ghost use Rattle.sql_query.specs.Queries.{width};
 ghost use Rattle.plan_tree.specs.Bitmaps.{IsIndexOn};
-ghost use Rattle.plan_tree.specs.Reads.{IsOverTables};
-ghost use Rattle.scan_paths.specs.Reached.{AreReached, AreReachedBy, IsReach, may_use_at, is_clause_of_use};
+ghost use Rattle.plan_tree.specs.work.Reads.{IsOverTables};
+ghost use Rattle.scan_paths.specs.work.Reached.{AreReached, AreReachedBy, IsReach, may_use_at, is_clause_of_use};
 
 use crate::relation_scans::table_of;
 use catalog::{Catalog, IndexDef};

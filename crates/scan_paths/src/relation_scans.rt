@@ -5,12 +5,12 @@ ghost use Rattle.pg_base.specs.Sets.{has};
 ghost use Rattle.catalog.specs.Contents.{IsTable};
 ghost use Rattle.sql_query.specs.Queries.{width};
 ghost use Rattle.plan_tree.specs.Bitmaps.{IsIndexOn, table_of_relation};
-ghost use Rattle.plan_tree.specs.Fronts.{ArePathsOf, StayDominated, is_no_bitmap};
-ghost use Rattle.plan_tree.specs.Reads.{IsOverTables};
-ghost use Rattle.plan_tree.specs.Views.{path};
-ghost use Rattle.scan_paths.specs.Reached.{AreReached, IsReach, IsReached};
-ghost use Rattle.scan_paths.specs.Scans.{OffersScans, IsIndexServedBy, AreAllServed, IsSeqServed};
-ghost use Rattle.plan_tree.specs.Lists.{AreScanOffers, AreDominatedBy};
+ghost use Rattle.plan_tree.specs.work.Fronts.{ArePathsOf, StayDominated, is_no_bitmap};
+ghost use Rattle.plan_tree.specs.work.Reads.{IsOverTables};
+ghost use Rattle.plan_tree.specs.work.Views.{path};
+ghost use Rattle.scan_paths.specs.work.Reached.{AreReached, IsReach, IsReached};
+ghost use Rattle.scan_paths.specs.work.Scans.{OffersScans, IsIndexServedBy, AreAllServed, IsSeqServed};
+ghost use Rattle.plan_tree.specs.work.Lists.{AreScanOffers, AreDominatedBy};
 
 use crate::index_scans::{ByIndex, offer_by_index};
 use crate::reached::{Reached, indexes_reached};

@@ -6,7 +6,7 @@ use Rattle.std.proofs.lemmas.Bool.{true≢false, cases_Bool}
 use Rattle.pg_base.specs.declared.numbers.ColNo.{ColNo}
 use Rattle.pg_value.specs.declared.value.SqlType.{SqlType}
 use Rattle.pg_value.specs.declared.value.Value.{Value}
-use Rattle.pg_value.specs.Order.{IsOfFamily}
+use Rattle.pg_value.specs.work.Order.{IsOfFamily}
 use Rattle.opfamily.specs.KeyOrder.{key_family}
 use Rattle.opfamily.specs.declared.classes.IndexKey.{IndexKey}
 use Rattle.opfamily.specs.declared.classes.Method.TheVariants.{Btree}
@@ -16,14 +16,15 @@ use Rattle.pg_expr.specs.Typed.{some_value}
 use Rattle.pg_expr.proofs.PushedLaws.{IsDefined}
 use Rattle.eq_classes.proofs.ListLemmas.{IsIn, in_filter, found_in, found_passes, any_from}
 use Rattle.btree_index.specs.declared.bounds.Probe.{Probe}
-use Rattle.btree_index.specs.Bounds as tree
-use Rattle.btree_index.specs.Bounds.{AreBounds, GoOn, IsOn, IsOpenOn}
+use Rattle.btree_index.specs.work.Bounds as tree
+use Rattle.btree_index.specs.work.Bounds.{AreBounds, GoOn, IsOn, IsOpenOn}
 use Rattle.index_match.specs.Conditions.{has_key_form}
 use Rattle.index_match.specs.Numbered.{Numbered, conditions_of}
 use Rattle.index_match.specs.Bounds as match
+use Rattle.index_match.specs.work.Bounds as match_work
 use Rattle.index_match.specs.Bounds.{bounding, bounds_among, is_fixing}
-use Rattle.scan_probes.specs.Values.{Given, are_true, value_beside}
-use Rattle.scan_probes.specs.Probes.{AreOf, column_of, fixed_or_open, conditions_on_key, probe_of, probes_from}
+use Rattle.scan_probes.specs.work.Values.{Given, are_true, value_beside}
+use Rattle.scan_probes.specs.work.Probes.{AreOf, column_of, fixed_or_open, conditions_on_key, probe_of, probes_from}
 use Rattle.scan_probes.proofs.MeetLemmas.{fixes, meets_true, stands}
 
 -- no element passes a test where none is found

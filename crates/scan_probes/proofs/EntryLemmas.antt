@@ -10,7 +10,7 @@ use Rattle.pg_value.specs.declared.value.Value.{Value}
 use Rattle.pg_value.specs.declared.value.Value.TheVariants.{Null}
 use Rattle.opfamily.specs.KeyOrder.{IndexEntry}
 use Rattle.catalog.specs.Indexes.{Index}
-use Rattle.scan_probes.specs.Values.{HasEntryValue, key_columns, value_among, value_in_entry}
+use Rattle.scan_probes.specs.work.Values.{HasEntryValue, key_columns, value_among, value_in_entry}
 
 abbrev is_same : ColNo → ColNo → Bool
 is_same c n = nat_eq c.0 n.0

@@ -18,11 +18,11 @@ use Rattle.pg_expr.specs.Typed.{IsTyped, some_value}
 use Rattle.pg_expr.proofs.DefinedLaws.{typed-defined}
 use Rattle.pg_expr.proofs.PushedLaws.{IsDefined}
 use Rattle.eq_classes.proofs.ListLemmas.{all_at}
-use Rattle.btree_index.specs.Bounds.{AreBounds, meets_all}
+use Rattle.btree_index.specs.work.Bounds.{AreBounds, meets_all}
 use Rattle.index_match.specs.Bounds.{bounding}
 use Rattle.index_match.specs.Numbered.{Numbered, conditions_of}
-use Rattle.scan_probes.specs.Values.{Given, are_true, value_beside}
-use Rattle.scan_probes.specs.Probes.{AreOf, FitGiven, FitOwn, IsKeyTyped, column_of, given_value, probes_from}
+use Rattle.scan_probes.specs.work.Values.{Given, are_true, value_beside}
+use Rattle.scan_probes.specs.work.Probes.{AreOf, FitGiven, FitOwn, IsKeyTyped, column_of, given_value, probes_from}
 use Rattle.scan_probes.proofs.ProbeLemmas.{key_fits}
 use Rattle.scan_probes.proofs.BoundsLemmas.{IsKeySampled, in_conditions, probes_bound, probes_meet}
 use Rattle.eq_classes.proofs.TypedLemmas.{is_some_value as is_some}

@@ -7,7 +7,7 @@ use Rattle.pg_value.specs.declared.operators.Op.TheVariants.{Lt, Le, Eq, Ge, Gt,
 use Rattle.pg_value.specs.declared.value.SqlType.{SqlType}
 use Rattle.pg_value.specs.declared.value.Value.{Value}
 use Rattle.pg_value.specs.declared.value.Value.TheVariants.{Null, Int, Bool as Flag, Text as String}
-use Rattle.pg_value.specs.Order.{IsOfFamily}
+use Rattle.pg_value.specs.work.Order.{IsOfFamily}
 use Rattle.pg_value.specs.Truths.{is_true, AreComparable, commutator_of, truth_of_op}
 use Rattle.pg_value.proofs.OrderLaws.{truth_exchanged}
 use Rattle.opfamily.specs.KeyOrder.{key_family}
@@ -22,12 +22,12 @@ use Rattle.pg_expr.specs.Typed.{some_value}
 use Rattle.pg_expr.proofs.PushedLaws.{IsDefined, kinds_turned}
 use Rattle.btree_index.specs.declared.bounds.Probe.{Probe}
 use Rattle.btree_index.specs.declared.bounds.Probe.TheVariants.{Bound}
-use Rattle.btree_index.specs.Bounds as tree
-use Rattle.btree_index.specs.Bounds.{IsOn}
+use Rattle.btree_index.specs.work.Bounds as tree
+use Rattle.btree_index.specs.work.Bounds.{IsOn}
 use Rattle.index_match.specs.Conditions.{has_key_form, is_key, is_key_side, is_family_operator, is_outside}
 use Rattle.index_match.specs.Bounds.{is_fixing}
-use Rattle.scan_probes.specs.Values.{Given, value_beside}
-use Rattle.scan_probes.specs.Probes.{column_of, given_value, probe_of}
+use Rattle.scan_probes.specs.work.Values.{Given, value_beside}
+use Rattle.scan_probes.specs.work.Probes.{column_of, given_value, probe_of}
 use Rattle.scan_probes.proofs.ProbeLemmas.{commutes, same_family}
 
 equality_turned : (op : Op) → tree.is_equality (commutator_of op) ≡ tree.is_equality op

@@ -4,7 +4,7 @@ use Rattle.pg_value.specs.declared.operators.Family.{Family}
 use Rattle.pg_value.specs.declared.operators.Op.{Op}
 use Rattle.pg_value.specs.declared.value.SqlType.{SqlType}
 use Rattle.pg_value.specs.declared.value.Value.{Value}
-use Rattle.pg_value.specs.Order.{IsOfFamily}
+use Rattle.pg_value.specs.work.Order.{IsOfFamily}
 use Rattle.pg_value.specs.Truths.{IsSameKind, commutator_of}
 use Rattle.opfamily.specs.Answers.{accepted, number_in}
 use Rattle.opfamily.specs.KeyOrder.{key_family}

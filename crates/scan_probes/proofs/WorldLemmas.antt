@@ -18,14 +18,14 @@ use Rattle.pg_expr.specs.Columns.{each_column, each_column_of, passes_column}
 use Rattle.pg_expr.proofs.ColumnLaws.{agree-truth}
 use Rattle.catalog.specs.Range.{table_of, type_in}
 use Rattle.heap.specs.Stored.{Values}
-use Rattle.path_cost.specs.Columns.{is_column_in}
+use Rattle.path_cost.specs.work.Columns.{is_column_in}
 use Rattle.plan_laws.proofs.FitsLemmas.{values_fit}
 use Rattle.sql_query.specs.Meaning.{all_true}
 use Rattle.sql_query.specs.Queries.{Query, width}
 use Rattle.sql_query.specs.Tuples.{Tuple, beside, row_at, row_of, rows_of_relation, value_at}
 use Rattle.sql_query.specs.Worlds.{World}
-use Rattle.scan_probes.specs.Scenes.{IsOverWorld, IsTestable, binds_at}
-use Rattle.scan_probes.specs.Values.{Given, are_true, tuple_given, has_value, value_beside, value_in, row_value}
+use Rattle.scan_probes.specs.work.Scenes.{IsOverWorld, IsTestable, binds_at}
+use Rattle.scan_probes.specs.work.Values.{Given, are_true, tuple_given, has_value, value_beside, value_in, row_value}
 
 -- columns that pass two tests pass both
 module _ (a b : ColRef → Bool) where

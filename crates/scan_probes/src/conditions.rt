@@ -1,9 +1,9 @@
 //! Conditions tested at a row or at an entry.
 
 ghost use Rattle.std.specs.Prelude.{◌≡◌, ◌<◌, IfOk, length};
-ghost use Rattle.scan_probes.specs.Scenes.{AreReadyIn, values_at};
-ghost use Rattle.scan_probes.specs.Values.{are_true};
-ghost use Rattle.scan_probes.specs.Filters.{chosen_conditions, lent_conditions};
+ghost use Rattle.scan_probes.specs.work.Scenes.{AreReadyIn, values_at};
+ghost use Rattle.scan_probes.specs.work.Values.{are_true};
+ghost use Rattle.scan_probes.specs.work.Filters.{chosen_conditions, lent_conditions};
 
 use crate::bound::Bound;
 use eq_classes::{Classes, ClauseSet};

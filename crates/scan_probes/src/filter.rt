@@ -1,7 +1,7 @@
 //! Conditions that a scan tests at the rows of its relation, or at entries of an index, beside the rows that it is given.
 
 ghost use Rattle.std.specs.Prelude.{◌≡◌};
-ghost use Rattle.scan_probes.specs.Filters.{AreTestedAtEntry, AreTestedAtRow, is_met_at_entry, is_met_at_row};
+ghost use Rattle.scan_probes.specs.work.Filters.{AreTestedAtEntry, AreTestedAtRow, is_met_at_entry, is_met_at_row};
 
 use crate::bound::{Bound, Own};
 use crate::conditions::all_true;

@@ -10,7 +10,7 @@ ghost use Rattle.opfamily.specs.declared.classes.Method.TheVariants.{Btree};
 ghost use Rattle.pg_expr.specs.Cond.{Cond};
 ghost use Rattle.pg_expr.specs.Typed.{IsTyped};
 ghost use Rattle.pg_expr.specs.declared.operand.ColRef.{ColRef};
-ghost use Rattle.btree_index.specs.Bounds.{AreBounds, meets_all};
+ghost use Rattle.btree_index.specs.work.Bounds.{AreBounds, meets_all};
 ghost use Rattle.index_match.specs.Bounds.{bounding};
 ghost use Rattle.index_match.specs.Numbered.{Numbered, conditions_of};
 ghost use Rattle.pg_base.specs.declared.numbers.RelNo.{RelNo};
@@ -18,9 +18,9 @@ ghost use Rattle.sql_query.specs.Meaning.{all_true};
 ghost use Rattle.sql_query.specs.Queries.{Query};
 ghost use Rattle.sql_query.specs.Tuples.{Tuple, beside, rows_of_relation};
 ghost use Rattle.sql_query.specs.Worlds.{World};
-ghost use Rattle.scan_probes.specs.Scenes.{AreReady, IsOverWorld, IsTestable};
-ghost use Rattle.scan_probes.specs.Probes.{AreOf, FitGiven, FitOwn, IsKeyTyped, probes_from};
-ghost use Rattle.scan_probes.specs.Values.{Given, are_true, tuple_given, value_beside, value_in};
+ghost use Rattle.scan_probes.specs.work.Scenes.{AreReady, IsOverWorld, IsTestable};
+ghost use Rattle.scan_probes.specs.work.Probes.{AreOf, FitGiven, FitOwn, IsKeyTyped, probes_from};
+ghost use Rattle.scan_probes.specs.work.Values.{Given, are_true, tuple_given, value_beside, value_in};
 
 /// The conditions of a B-tree on a relation, where rows of other relations are given, are bounds of its keys. Key values meet
 /// them exactly where the conditions that bound the index are True at a row with these values: a NULL among the rows given

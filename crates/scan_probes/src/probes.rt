@@ -3,10 +3,11 @@
 ghost use Rattle.std.specs.Prelude.{◌≡◌, ◌<◌, true, IfOk, IfSome, OnOk, IsTrue, length};
 ghost use Rattle.opfamily.specs.declared.classes.Method.TheVariants.{Btree, Hash};
 ghost use Rattle.pg_expr.specs.Truths.{value_of};
-ghost use Rattle.pg_expr.specs.View.{cond};
+ghost use Rattle.pg_expr.specs.work.View.{cond};
 ghost use Rattle.index_match.specs.Conditions as forms;
-ghost use Rattle.scan_probes.specs.Probes.{AddsBounds, AreKnown, compared_with, fixing_bound, given_bound, given_value, is_given, is_known, key_bounds, probe_at};
-ghost use Rattle.scan_probes.specs.Filters.{lent_conditions};
+ghost use Rattle.index_match.specs.work.Conditions as forms_work;
+ghost use Rattle.scan_probes.specs.work.Probes.{AddsBounds, AreKnown, compared_with, fixing_bound, given_bound, given_value, is_given, is_known, key_bounds, probe_at};
+ghost use Rattle.scan_probes.specs.work.Filters.{lent_conditions};
 
 use crate::given::Given;
 use btree_index::{Bound, Probe};

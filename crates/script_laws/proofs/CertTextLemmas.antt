@@ -31,12 +31,12 @@ use Rattle.explain_laws.proofs.SplitLemmas.{Names, split, stops}
 use Rattle.plan_check.specs.Certificates.{Certificate, Entry, Node, Side, by_bitmap, by_index, by_index_only, by_merge, by_nest, by_seq}
 use Rattle.certificate_text.specs.HasText.{HasEntryLine, HasKeysText, HasNodeText, HasStartup, HasText, HasElementText, HaveElementTexts, HasBitsText, IsEntryNumber, IsSetOf, IsWritable}
 use Rattle.certificate_text.specs.Texts.{alias_list, best_line, certificate_text, ended, entries_text, entry_line, entry_text, head_text, leaf_text, leaf_texts, measures_text, node_text, param_text, set_text, side_text, sides_text, tree_text, tree_texts, with_bare_commas}
-use Rattle.certificate_entries.specs.Keys.{ends_key}
-use Rattle.certificate_entries.specs.Scans.{scan_text}
+use Rattle.certificate_entries.specs.work.Keys.{ends_key}
+use Rattle.certificate_entries.specs.work.Scans.{scan_text}
 use Rattle.certificate_entries.proofs.ClauseLemmas.{conjunct-once, conjunct-small}
 use Rattle.certificate_entries.proofs.NodeLemmas.{ends-sides}
 use Rattle.certificate_entries.proofs.NumberLemmas.{number-begins}
-use Rattle.statements.specs.certificate_reader_Reading.{AreOnly}
+use Rattle.statements.specs.certificate_reader_work_Reading.{AreOnly}
 use Rattle.statements.specs.certificate_reader_PlainLemmas.{plain-line}
 use Rattle.statements.specs.certificate_reader_ReadingLemmas.{same-entries}
 

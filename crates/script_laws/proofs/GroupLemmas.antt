@@ -9,7 +9,7 @@ use Rattle.catalog.specs.Contents.{Contents, IsLawful}
 use Rattle.catalog.specs.Range.{type_in}
 use Rattle.eq_classes.specs.Clauses.{ClassTable}
 use Rattle.eq_classes.specs.Holding.{IsClassTable}
-use Rattle.path_cost.specs.Columns.{IsOver}
+use Rattle.path_cost.specs.work.Columns.{IsOver}
 use Rattle.sql_lex.specs.declared.tokens.Token.{Token}
 use Rattle.sql_lex.specs.Ends.{token_at}
 use Rattle.sql_lex.specs.Words.{AreWords}
@@ -38,9 +38,10 @@ use Rattle.query_reader.specs.declared.wanted.Wanted.TheVariants as wanted
 use Rattle.query_reader.proofs.AliasLemmas.{HasNames, after-words, all-named}
 use Rattle.query_reader.proofs.GrowLemmas.{some-groups}
 use Rattle.group_query.specs.Grouping.{IsWellGrouped, given_groups}
-use Rattle.group_reader.specs.Binding.{BoundGroups, bound_groups, grouped_with, grouper, groups_over, lists_bound}
-use Rattle.group_reader.specs.Selected.{IsGroupedByItself}
-use Rattle.group_reader.specs.Written.{columns_written, listed_of, sorts_written}
+use Rattle.group_reader.specs.Binding.{BoundGroups, bound_groups, grouped_with, groups_over, lists_bound}
+use Rattle.group_reader.specs.work.Binding.{grouper}
+use Rattle.group_reader.specs.work.Selected.{IsGroupedByItself}
+use Rattle.group_reader.specs.work.Written.{columns_written, listed_of, sorts_written}
 use Rattle.group_reader.proofs.MeaningLemmas.{lists-same}
 use Rattle.group_reader.proofs.OverLemmas.{each-listed, few-columns, few-items}
 use Rattle.group_reader.proofs.WellLemmas.{are-lists, grouped-of-lists}
@@ -48,7 +49,7 @@ use Rattle.statements.specs.Accepted.{Defines, Does, IsRead, asked_as, asked_of_
 use Rattle.store.specs.Actions.{Action}
 use Rattle.world_laws.proofs.BoundLemmas.{where-over, within-limit}
 use Rattle.world_laws.proofs.JoinedLemmas.{IsJoined, groups-joined, nothing-is}
-use Rattle.world_laws.specs.Definitions.{Comes}
+use Rattle.world_laws.specs.work.Definitions.{Comes}
 use Rattle.world_laws.specs.LawfulWorlds.{IsLawfulWorld}
 use Rattle.script_laws.specs.Reached.{AreGroupsBoundIn}
 use Rattle.script_laws.proofs.ReadLemmas.{carried}

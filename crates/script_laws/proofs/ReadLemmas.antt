@@ -24,8 +24,9 @@ use Rattle.sql_query.specs.WellBound.{IsWellBound}
 use Rattle.sql_query.specs.Worlds.{World}
 use Rattle.store.specs.Actions.{Action}
 use Rattle.statements.specs.Accepted.{Carries, Defines, Does, IsRead, asked_as, asked_of_groups}
-use Rattle.world_laws.specs.Definitions.{Comes}
-use Rattle.world_laws.specs.LawfulWorlds.{IsLawfulWorld, MayBeDone}
+use Rattle.world_laws.specs.work.Definitions.{Comes}
+use Rattle.world_laws.specs.LawfulWorlds.{IsLawfulWorld}
+use Rattle.world_laws.specs.work.LawfulWorlds.{MayBeDone}
 use Rattle.world_laws.proofs.BoundLemmas.{part-bound}
 use Rattle.world_laws.proofs.DefinedLemmas.{definition-may, index-may}
 use Rattle.script_laws.specs.Reached.{IsBoundIn}

@@ -19,7 +19,7 @@ use Rattle.expr_reader.specs.Lists.{further_parts}
 use Rattle.expr_reader.specs.Scope.{Scope, Visible, columns_in_scope, look_up, under}
 use Rattle.expr_reader.proofs.TypedLemmas.{next-done}
 use Rattle.query_reader.specs.Binding.{alone, found_relation, item_columns}
-use Rattle.query_reader.specs.From.{AreRelations}
+use Rattle.query_reader.specs.work.From.{AreRelations}
 use Rattle.query_reader.specs.Scope.{columns_from, relations_from, scope_of}
 use Rattle.query_reader.specs.Written.{item_of}
 use Rattle.query_reader.specs.declared.written.Item.{Item}
@@ -27,8 +27,9 @@ use Rattle.query_reader.specs.declared.written.Item.TheVariants.{Every, EveryOf,
 use Rattle.group_reader.specs.declared.parts.Part.{Part}
 use Rattle.group_reader.specs.declared.written.Column.{Column}
 use Rattle.group_reader.specs.Binding.{BoundLists, shown_columns}
-use Rattle.group_reader.specs.Meaning.{column_meant, keys_said, list_said, shown_at, then_parts}
-use Rattle.group_reader.specs.Written.{columns_written, listed_of, sorts_written, word_of_output}
+use Rattle.group_reader.specs.work.Meaning.{column_meant, keys_said, list_said, shown_at, then_parts}
+use Rattle.group_reader.specs.Written.{word_of_output}
+use Rattle.group_reader.specs.work.Written.{columns_written, listed_of, sorts_written}
 use Rattle.group_reader.proofs.WellLemmas.{AreLists, each-length}
 
 columns-many : (alias : List ℕ) (rel : RelNo) (k : ℕ) (names : List (List ℕ)) → length (columns_from alias rel k names) ≡ length names

@@ -21,15 +21,15 @@ use Rattle.eq_classes.specs.Listing.{class_at, blank}
 use Rattle.eq_classes.proofs.ColumnLemmas.{member_passes}
 use Rattle.eq_classes.proofs.ListLemmas.{IsIn, all_at, all_from, found_in, found_passes, in_filter_map, in_from_contains}
 use Rattle.eq_classes.proofs.WrittenLemmas.{in_columns}
-use Rattle.path_cost.specs.Columns.{is_column_in}
+use Rattle.path_cost.specs.work.Columns.{is_column_in}
 use Rattle.sql_query.specs.Queries.{Query}
 use Rattle.sql_query.specs.WellBound.{given_with, IsColumnOf, IsWellBound, NamesOnly}
 use Rattle.eq_classes.specs.declared.classes.ClassNo.{ClassNo}
-use Rattle.pathkeys.specs.Finding.{class_numbers}
+use Rattle.pathkeys.specs.work.Finding.{class_numbers}
 use Rattle.pathkeys.specs.Keys.{Keys}
 use Rattle.pathkeys.specs.Sorted.{keys_order, order_at}
 use Rattle.sort_rows.specs.declared.columns.SortColumn.{SortColumn}
-use Rattle.sort_rows.specs.Columns.{sorting_by, column_in, sorted_columns, columns_order, key_at, IsSortColumn}
+use Rattle.sort_rows.specs.work.Columns.{sorting_by, column_in, sorted_columns, columns_order, key_at, IsSortColumn}
 
 -- each member of a class of a well bound query is a column of one of its relations
 module _ (c : Contents) (q : Query) (is : IsWellBound c q) where

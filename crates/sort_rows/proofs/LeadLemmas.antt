@@ -18,8 +18,8 @@ use Rattle.pg_value.proofs.ColumnOrderLemmas.{column_total}
 use Rattle.pg_value.proofs.OrderLaws.{value_total}
 use Rattle.opfamily.specs.KeyOrder.{first_value, later_values}
 use Rattle.sort_rows.specs.declared.columns.SortColumn.{SortColumn}
-use Rattle.sort_rows.specs.Columns.{columns_order, values_order}
-use Rattle.sort_rows.specs.Leads.{absent_lead, directed_lead, family_lead, flag_lead, key_lead, later, lead_of, leading, text_lead}
+use Rattle.sort_rows.specs.work.Columns.{columns_order, values_order}
+use Rattle.sort_rows.specs.work.Leads.{absent_lead, directed_lead, family_lead, flag_lead, key_lead, later, lead_of, leading, text_lead}
 
 below : (a b : ℤ) → int_cmp a b ≡ Less → a <ℤ b
 below a b is = int_ranked a b Less (sym is)

@@ -11,8 +11,8 @@ use Rattle.opfamily.specs.KeyOrder.{first_value, later_values}
 use Rattle.opfamily.proofs.KeyOrderLemmas.{first-drop, later-drop, then_other}
 use Rattle.sort_rows.specs.declared.columns.SortColumn.{SortColumn}
 use Rattle.sort_rows.specs.declared.sort.Keyed.{Keyed}
-use Rattle.sort_rows.specs.Columns.{values_order, columns_order}
-use Rattle.sort_rows.specs.Keyed.{key_in, keyed_order}
+use Rattle.sort_rows.specs.work.Columns.{values_order, columns_order}
+use Rattle.sort_rows.specs.work.Keyed.{key_in, keyed_order}
 
 pub columns_total : (cs : List SortColumn) → IsTotalOrder (columns_order cs)
 columns_total [] = record { antisymm = λ x y. refl; trans = λ x y z p q. p; congr = λ x y z p. refl }

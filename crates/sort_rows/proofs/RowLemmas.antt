@@ -16,15 +16,16 @@ use Rattle.sql_query.specs.catalog_Range.{Range, relation_at}
 use Rattle.eq_classes.specs.Holding.{IsWithin}
 use Rattle.pg_base.specs.declared.numbers.TableNo.{TableNo}
 use Rattle.heap.specs.Stored.{Stored, Values}
-use Rattle.heap.specs.Tuples.{rank, relation_count, row_number}
+use Rattle.heap.specs.Tuples.{rank, relation_count}
+use Rattle.heap.specs.work.Tuples.{row_number}
 use Rattle.heap.proofs.RankLemmas.{rank-zero, rank-in, rank-out}
 use Rattle.heap.proofs.PaddingLemmas.{padded-inside}
 use Rattle.sql_query.specs.Queries.{Query, all_of_query, width}
 use Rattle.sql_query.specs.Tuples.{row_at, rows_of_relation, value_at}
 use Rattle.sql_query.specs.Worlds.{World, IsWorld, Holds, stored_at, nothing_stored}
 use Rattle.sort_rows.specs.declared.columns.SortColumn.{SortColumn}
-use Rattle.sort_rows.specs.Columns.{key_at, IsSortColumn}
-use Rattle.sort_rows.specs.Rows.{relation, tuple_of, AreRowsAt, HasRows}
+use Rattle.sort_rows.specs.work.Columns.{key_at, IsSortColumn}
+use Rattle.sort_rows.specs.work.Rows.{relation, tuple_of, AreRowsAt, HasRows}
 use Rattle.pg_base.proofs.ListLemmas.{zip-long as zip_long}
 use Rattle.pg_base.proofs.ListLemmas.{zip-at as zip_at}
 use Rattle.sort_rows.proofs.RankLemmas.{rank-below}

@@ -20,9 +20,9 @@ use Rattle.sql_query.specs.Tuples.{value_at}
 use Rattle.sql_query.specs.Worlds.{World}
 use Rattle.sort_rows.specs.declared.columns.SortColumn.{SortColumn}
 use Rattle.sort_rows.specs.declared.sort.Keyed.{Keyed}
-use Rattle.sort_rows.specs.Columns.{sorted_columns, columns_order, key_at}
-use Rattle.sort_rows.specs.Keyed.{key_in, keyed_order, rows_keyed, run_at, AreKeyed, IsKeyed}
-use Rattle.sort_rows.specs.Rows.{tuple_of}
+use Rattle.sort_rows.specs.work.Columns.{sorted_columns, columns_order, key_at}
+use Rattle.sort_rows.specs.work.Keyed.{key_in, keyed_order, rows_keyed, run_at, AreKeyed, IsKeyed}
+use Rattle.sort_rows.specs.work.Rows.{tuple_of}
 use Rattle.sort_rows.proofs.ColumnLemmas.{columns_compare}
 use Rattle.sort_rows.proofs.LeadLemmas.{leads_first}
 use Rattle.sort_rows.proofs.ListLemmas.{piece_at}

@@ -1,5 +1,1 @@
-pub mod Columns
-pub mod Rows
-pub mod Keyed
-pub mod KeySource
-pub mod Leads
+pub mod work

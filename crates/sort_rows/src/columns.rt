@@ -4,7 +4,7 @@ ghost use Rattle.std.specs.Prelude.{◌≡◌, ◌<◌, All, IfOk, length};
 ghost use Rattle.pg_base.specs.Sets.{has};
 ghost use Rattle.eq_classes.specs.Listing.{class_at};
 ghost use Rattle.heap.specs.Tuples.{rank};
-ghost use Rattle.sort_rows.specs.Columns.{column_in, sorting_columns};
+ghost use Rattle.sort_rows.specs.work.Columns.{column_in, sorting_columns};
 
 use eq_classes::{ClassNo, Classes};
 use pg_base::{Memory, RelNo, RelSet};

@@ -5,13 +5,13 @@ ghost use Rattle.pg_base.specs.Sets.{has};
 ghost use Rattle.pg_value.specs.ColumnOrder.{column_order};
 ghost use Rattle.eq_classes.specs.Holding.{IsWithin};
 ghost use Rattle.heap.specs.Tuples.{relation_count};
-ghost use Rattle.path_cost.specs.Columns.{AreTables};
+ghost use Rattle.path_cost.specs.work.Columns.{AreTables};
 ghost use Rattle.sql_query.specs.Queries.{all_of_query};
 ghost use Rattle.sql_query.specs.Worlds.{IsWorld, world};
-ghost use Rattle.sort_rows.specs.Columns.{columns_order, lent_value, lent_key_values, values_order, IsSortColumn};
-ghost use Rattle.sort_rows.specs.Keyed.{run_at};
-ghost use Rattle.sort_rows.specs.KeySource.{AddsKey, AreRowsRead, IsKeyAt, IsKeySource, world_of};
-ghost use Rattle.sort_rows.specs.Rows.{HasRows};
+ghost use Rattle.sort_rows.specs.work.Columns.{columns_order, lent_value, lent_key_values, values_order, IsSortColumn};
+ghost use Rattle.sort_rows.specs.work.Keyed.{run_at};
+ghost use Rattle.sort_rows.specs.work.KeySource.{AddsKey, AreRowsRead, IsKeyAt, IsKeySource, world_of};
+ghost use Rattle.sort_rows.specs.work.Rows.{HasRows};
 
 use crate::columns::SortColumn;
 use crate::source::KeySource;

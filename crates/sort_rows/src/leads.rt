@@ -2,8 +2,9 @@
 
 ghost use Rattle.std.specs.Prelude.{◌≡◌, pos};
 ghost use Rattle.pg_value.specs.Order as order;
-ghost use Rattle.sort_rows.specs.Leads.{absent_lead, family_lead, flag_lead, key_lead, later, lead_of, leading, text_lead};
-ghost use Rattle.sort_rows.specs.Columns.{lent_key_values};
+ghost use Rattle.pg_value.specs.work.Order as order_work;
+ghost use Rattle.sort_rows.specs.work.Leads.{absent_lead, family_lead, flag_lead, key_lead, later, lead_of, leading, text_lead};
+ghost use Rattle.sort_rows.specs.work.Columns.{lent_key_values};
 
 use crate::columns::SortColumn;
 use crate::keys::value_or;

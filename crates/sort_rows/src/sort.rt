@@ -7,10 +7,10 @@ ghost use Rattle.heap.specs.Tuples.{relation_count};
 ghost use Rattle.sql_query.specs.Queries.{all_of_query};
 ghost use Rattle.sql_query.specs.WellBound.{IsWellBound};
 ghost use Rattle.sql_query.specs.Worlds.{IsWorld, world};
-ghost use Rattle.sort_rows.specs.Keyed.{AreWithLeads, keyed_order, keyed_sorted, rows_keyed, tuples_keyed};
-ghost use Rattle.sort_rows.specs.KeySource.{IsInKeyOrder, IsKeySource, in_key_order, keys_of_all, world_of};
-ghost use Rattle.sort_rows.specs.Rows.{AllHaveRows};
-ghost use Rattle.sort_rows.specs.Columns.{lent_key_values};
+ghost use Rattle.sort_rows.specs.work.Keyed.{AreWithLeads, keyed_order, keyed_sorted, rows_keyed, tuples_keyed};
+ghost use Rattle.sort_rows.specs.work.KeySource.{IsInKeyOrder, IsKeySource, in_key_order, keys_of_all, world_of};
+ghost use Rattle.sort_rows.specs.work.Rows.{AllHaveRows};
+ghost use Rattle.sort_rows.specs.work.Columns.{lent_key_values};
 
 use crate::columns::{SortColumn, sort_columns};
 use crate::keys::{add_key, compare_keys, key_at_place};

@@ -8,7 +8,7 @@ use Rattle.sql_grammar.specs.declared.table.Item.{Item}
 use Rattle.sql_grammar.specs.declared.table.Item.TheVariants.{Sign, FreeWord, Label, Digits, Ends, Stop, Query, MaybeOrder, MaybeLimit, MaybeOffset, Candidate, MoreCands, AdvisedSelect, MoreAdvised}
 use Rattle.sql_grammar.specs.Syntax.{Mark, IsOffered, Select, OrderBy, WindowedSelect, Cand, Advised, advised, Ending, semicolon, text_end}
 use Rattle.sql_grammar.specs.Words.{words_of_select, words_of_order, words_of_windowed, words_of_cand, words_of_cands, words_of_advised, words_of_more_advised, words_of_ending, levels_of_select, levels_of_windowed, levels_of_cand, levels_of_cands, levels_of_advised, levels_of_more_advised}
-use Rattle.sql_grammar.specs.Machine.{depth_of, by_row, takes_then, takes_all}
+use Rattle.sql_grammar.specs.work.Machine.{depth_of, by_row, takes_then, takes_all}
 use Rattle.sql_grammar.proofs.Complete.{apart, ending}
 use Rattle.sql_grammar.proofs.WindowComplete.{ending-window, parenthesis-window}
 use Rattle.sql_grammar.proofs.OrderComplete.{windowed-select, ordered-select}

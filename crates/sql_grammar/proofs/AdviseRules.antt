@@ -10,7 +10,7 @@ use Rattle.sql_grammar.specs.declared.table.Item.{Item}
 use Rattle.sql_grammar.specs.declared.table.Item.TheVariants.{Keyword, Sign, FreeWord, Label, Digits, Whole, Ends, Stop, Query, MaybeOrder, MaybeLimit, MaybeOffset, AfterExplain, Candidate, MoreCands, AdvisedSelect, MoreAdvised}
 use Rattle.sql_grammar.specs.Syntax.{IsOffered, window, windowed_select, explain_table, ordered_select, advise_of, query, analyze, advise, check, use_plan}
 use Rattle.sql_grammar.specs.Words.{words_of_select, words_of_order, words_of_limit, words_of_offset, words_of_cand, words_of_cands, words_of_advised, words_of_more_advised, words_of_ending}
-use Rattle.sql_grammar.specs.Machine.{depth_of}
+use Rattle.sql_grammar.specs.work.Machine.{depth_of}
 use Rattle.sql_grammar.proofs.Forest.{words_of_parts, IsRule}
 
 -- the words of a SELECT with its order and its window, of a word behind them and of what follows

@@ -6,7 +6,7 @@ use Rattle.sql_grammar.specs.declared.class.Symbol.TheVariants.{Open, Close, Com
 use Rattle.sql_grammar.specs.declared.offered.TheConstants.{READS_ADVISE}
 use Rattle.sql_grammar.specs.Terminals.{Terminal, t_mark, t_semicolon}
 use Rattle.sql_grammar.specs.Syntax.{Mark, Select, OrderBy, WindowedSelect, Cand, Advised, advised, Advise, advise_of, Ending, semicolon, text_end}
-use Rattle.sql_grammar.specs.Unique.{ends_cand}
+use Rattle.sql_grammar.specs.work.Unique.{ends_cand}
 use Rattle.sql_grammar.specs.Words.{words_of_select, words_of_order, words_of_windowed, words_of_cand, words_of_cands, words_of_advised, words_of_more_advised, words_of_advise, words_of_ending}
 use Rattle.sql_grammar.proofs.ExprTrees.{one_offered, tested}
 use Rattle.sql_grammar.proofs.ListLemmas.{one_list}

@@ -7,7 +7,7 @@ use Rattle.sql_grammar.specs.declared.class.Word.{Word}
 use Rattle.sql_grammar.specs.declared.class.Word.TheVariants.{And, As, Asc, Create, Cross, Desc, False, From, Group, Inner, Is, Join, Limit, Not, Null, Offset, On, Or, Order, Select, Table, True, Using, Where, With}
 use Rattle.sql_grammar.specs.declared.class.Symbol.{Symbol}
 use Rattle.sql_grammar.specs.declared.class.Symbol.TheVariants.{Open, Close, Comma, Dot, Minus, Star}
-use Rattle.sql_grammar.specs.Table.{word_code, sign_code, free_code}
+use Rattle.sql_grammar.specs.work.Table.{word_code, sign_code, free_code}
 
 abbrev word_at : ℕ → Word
 word_at n = get_or (And ∷ As ∷ Asc ∷ Create ∷ Cross ∷ Desc ∷ False ∷ From ∷ Group ∷ Inner ∷ Is ∷ Join ∷ Limit ∷ Not ∷ Null ∷ Offset ∷ On ∷ Or ∷ Order ∷ Select ∷ Table ∷ True ∷ Using ∷ Where ∷ With ∷ []) n And

@@ -2,7 +2,8 @@
 use Rattle.std.proofs.Common.{◌≡◌, ℕ, ◌+◌, ◌≤◌, true, List, [], ◌∷◌, ◌++◌, None, refl, sym, ap, ◌∙◌, arith, append_assoc, append-nil, nat_le}
 use Rattle.std.proofs.lemmas.Bool.{le-leb}
 use Rattle.sql_lex.specs.declared.tokens.Token.{Token}
-use Rattle.sql_grammar.specs.Terminals.{Terminal, Ident, Said, free, t_key, t_mark, t_name, t_number, class_of}
+use Rattle.sql_grammar.specs.Terminals.{Terminal, Ident, Said, free, t_key, t_mark, t_name, t_number}
+use Rattle.sql_grammar.specs.work.Terminals.{class_of}
 use Rattle.sql_grammar.specs.declared.class.Free.TheVariants.{Between, Full, In, Left, Natural, Outer, Right}
 use Rattle.sql_grammar.specs.declared.class.Word.TheVariants.{And, Is, Not}
 use Rattle.sql_grammar.specs.declared.class.Symbol.TheVariants.{Close, Dot}
@@ -10,8 +11,8 @@ use Rattle.sql_grammar.specs.declared.table.Item.{Item}
 use Rattle.sql_grammar.specs.declared.table.Item.TheVariants.{Keyword, Label, Ends, Nullness, MoreColumns, Negation, MoreAnds, MoreOrs, Closes, NotEnds, AfterName, AfterColumn, AfterTruth, Side, AfterQualifier, Result, MoreResults, AfterResult, MaybeAlias, MoreJoins, MoreGroups, MaybeWhere, MaybeCommon, MoreShares, MaybeHistogram, MoreBounds, Literal, Digits}
 use Rattle.sql_grammar.specs.Syntax.{Key, Mark, IsBareAlias, bare, qualified, yes, no, unknown, Lit, number, negative, quoted, constant, OperandTree, column, literal, Expr, either_of, Ors, no_or, or_conj, Conj, both_of, Ands, no_and, and_neg, Negated, no_not, not_before, Neg, negated, plain, Atom, parens, compare, is_null, is_not_null, in_list, between, column_alone, constant_alone, Nulls, unwritten, not_null, nullable, ColDef, coldef, Output, every, every_of, one, Alias, no_alias, bare_alias, as_alias, Where, no_where, where_expr, Share, share, CommonPart, no_common, common, Histogram, no_histogram, histogram, Ending, semicolon, text_end}
 use Rattle.sql_grammar.specs.Words.{words_of_lit, words_of_operand, words_of_expr, words_of_ors, words_of_conj, words_of_ands, words_of_neg, words_of_atom, words_of_nulls, words_of_coldef, words_of_columns, words_of_output, words_of_outputs, words_of_alias, words_of_where, words_of_share, words_of_shares, words_of_common, words_of_bounds, words_of_histogram, words_of_ending, levels_of_where, levels_of_expr, levels_of_ors, levels_of_conj, levels_of_ands, levels_of_neg, levels_of_atom}
-use Rattle.sql_grammar.specs.Table.{takes_of, is_optional}
-use Rattle.sql_grammar.specs.Machine.{depth_of, takes_all}
+use Rattle.sql_grammar.specs.work.Table.{takes_of, is_optional}
+use Rattle.sql_grammar.specs.work.Machine.{depth_of, takes_all}
 
 -- the item takes nothing of what comes
 abbrev pub Passes : Item → List Terminal → Type 0

@@ -4,8 +4,8 @@ use Rattle.std.proofs.lemmas.Bool.{and_parts}
 use Rattle.sql_grammar.specs.declared.class.Class.{Class}
 use Rattle.sql_grammar.specs.declared.table.Item.{Item}
 use Rattle.sql_grammar.specs.declared.table.Item.TheVariants.{Whole}
-use Rattle.sql_grammar.specs.Table.{Expansion, takes_of, is_optional, takes_end, is_ending}
-use Rattle.sql_grammar.specs.Machine.{depth_of, opens, by_row, step_of, may_end, is_empty, is_closed}
+use Rattle.sql_grammar.specs.work.Table.{Expansion, takes_of, is_optional, takes_end, is_ending}
+use Rattle.sql_grammar.specs.work.Machine.{depth_of, opens, by_row, step_of, may_end, is_empty, is_closed}
 use Rattle.sql_grammar.proofs.RoomTests.{row_test}
 use Rattle.sql_grammar.proofs.Room.{row-room}
 

@@ -14,7 +14,7 @@ use Rattle.sql_grammar.specs.Terminals.{Terminal, Ident, free, token_of, t_key, 
 use Rattle.sql_grammar.specs.Reading.{terminal_by, word_terminal, symbol_terminal, ident_of, free_of, reserved_of, bytes_of_token}
 use Rattle.sql_grammar.specs.Faults.{terminals}
 use Rattle.sql_grammar.specs.Syntax.{IsOffered, Mark, Lit, bare, qualified, yes, no, unknown, number, negative, quoted, constant, OperandTree, column, literal, Expr, either_of, Ors, no_or, or_conj, Conj, both_of, Ands, no_and, and_neg, Negated, no_not, not_before, Neg, negated, plain, Atom, parens, compare, is_null, is_not_null, in_list, between, column_alone, constant_alone}
-use Rattle.sql_grammar.specs.Unique.{token_in, ends_operand, ends_atom, ends_conj, ends_expr, is_parens, front, tail}
+use Rattle.sql_grammar.specs.work.Unique.{token_in, ends_operand, ends_atom, ends_conj, ends_expr, is_parens, front, tail}
 use Rattle.sql_grammar.specs.Words.{words_of_lit, words_of_bounds, words_of_negated, words_of_col, words_of_operand, words_of_expr, words_of_ors, words_of_conj, words_of_ands, words_of_neg, words_of_atom}
 use Rattle.sql_grammar.proofs.ListLemmas.{one_list}
 

@@ -15,7 +15,7 @@ use Rattle.sql_grammar.specs.Syntax.{ClassTree, KeyTree, Using, Include}
 use Rattle.sql_grammar.specs.Syntax.{Cand, Advised, MaybeExplain, Argument as ArgumentTree, GroupedItem as GroupedItemTree, GroupBy}
 use Rattle.sql_grammar.specs.Words.{words_of_maybe_explain, words_of_argument, words_of_grouped_item, words_of_grouped_items, words_of_group_by, words_of_group_columns, words_of_cand, words_of_cands, words_of_advised, words_of_more_advised, levels_of_cand, levels_of_cands, levels_of_advised, levels_of_more_advised}
 use Rattle.sql_grammar.specs.Words.{words_of_class, words_of_keys, words_of_using, words_of_names, words_of_include}
-use Rattle.sql_grammar.specs.Machine.{depth_of}
+use Rattle.sql_grammar.specs.work.Machine.{depth_of}
 
 -- an atom that begins with `front` and goes on so; it opens no level
 abbrev pub Atom_after : List Terminal → List Terminal → Type 0

@@ -6,7 +6,7 @@ use Rattle.sql_grammar.specs.declared.table.Item.{Item}
 use Rattle.sql_grammar.specs.declared.table.Item.TheVariants.{Keyword, Label, Query, Negation, MoreAnds, MoreOrs, Result, MoreResults, MaybeAlias, MoreJoins, MoreGroups, MaybeWhere}
 use Rattle.sql_grammar.specs.Syntax.{Mark, Relation, relation, no_inner, inner, Join, join_on, cross_join, Group, group_of, Where, no_where, where_expr, Select, select_from}
 use Rattle.sql_grammar.specs.Words.{words_of_expr, words_of_output, words_of_outputs, words_of_relation, words_of_join, words_of_joins, words_of_group, words_of_groups, words_of_where, words_of_select, levels_of_join, levels_of_joins, levels_of_group, levels_of_groups, levels_of_where, levels_of_select}
-use Rattle.sql_grammar.specs.Machine.{depth_of, takes_all}
+use Rattle.sql_grammar.specs.work.Machine.{depth_of, takes_all}
 use Rattle.sql_grammar.proofs.Complete.{Passes, EndsExpr, EndsSelect, skip, apart, expr, outputs, alias, condition}
 
 -- what follows a join, what follows a group, and what follows all of them

@@ -10,7 +10,7 @@ use Rattle.sql_grammar.specs.declared.table.Item.{Item}
 use Rattle.sql_grammar.specs.declared.table.Item.TheVariants.{MoreResults, Result, AfterDistinct, FirstItem, Keyword, Sign, FreeWord, Label, Digits, Whole, Ends, Query, MaybeAlias, MoreJoins, MoreGroups, MaybeWhere, AfterQualifier, MaybeOrder, MaybeLimit, MaybeOffset, PlainItem, PlainTail, GroupedItem, AfterGroupedName, MoreGroupedItems, Argument, MaybeGroup, MoreGroupColumns}
 use Rattle.sql_grammar.specs.Syntax.{IsOffered, Key, Mark, Col, bare, qualified, Output, every, every_of, one, Group, Where, Select, select_from, Ending, semicolon, text_end, OrderBy, no_order, order_by, no_limit, most_rows, Offset, no_offset, skipped_rows, WindowTree, window, no_explain, explain, explain_table, OrderedSelect, ordered_select, Argument as ArgumentTree, all_rows, of_col, GroupedItem as ItemTree, plain_item, call, GroupBy, no_group_by, group_by, is_call, has_call, is_written, Holds, GroupedSelect, distinct_select, grouped_select}
 use Rattle.sql_grammar.specs.Words.{words_of_col, words_of_output, words_of_outputs, words_of_group, words_of_groups, words_of_where, words_of_select, words_of_order, words_of_offset, words_of_window, words_of_ending, words_of_ordered, words_of_argument, words_of_grouped_item, words_of_grouped_items, words_of_group_columns, words_of_group_by, words_of_grouped, levels_of_group, levels_of_groups, levels_of_where, levels_of_select, levels_of_ordered, levels_of_grouped}
-use Rattle.sql_grammar.specs.Machine.{depth_of, by_row, takes_then, takes_all}
+use Rattle.sql_grammar.specs.work.Machine.{depth_of, by_row, takes_then, takes_all}
 use Rattle.sql_grammar.proofs.Complete.{Passes, EndsSelect, skip, apart, ending, outputs}
 use Rattle.sql_grammar.proofs.WindowComplete.{ending-window, window-order, skipped, windowed}
 use Rattle.sql_grammar.proofs.OrderComplete.{order, after-select, ended}

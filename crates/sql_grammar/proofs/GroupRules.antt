@@ -1,7 +1,8 @@
 -- The rows of a SELECT's list, and of what follows it up to a statement's end, are rules of the grammar.
 use Rattle.std.proofs.Common.{◌≡◌, ℕ, ◌+◌, ◌≤◌, Bool, true, false, ◌||◌, List, [], ◌∷◌, ◌++◌, Option, Some, None, refl, sym, ap, ◌∙◌, subst, arith, append_assoc, cond}
 use Rattle.sql_lex.specs.declared.tokens.Token.{Token}
-use Rattle.sql_grammar.specs.Terminals.{Terminal, Ident, t_key, t_mark, t_name, t_semicolon, t_end, free, class_of}
+use Rattle.sql_grammar.specs.Terminals.{Terminal, Ident, t_key, t_mark, t_name, t_semicolon, t_end, free}
+use Rattle.sql_grammar.specs.work.Terminals.{class_of}
 use Rattle.sql_grammar.specs.declared.class.Free.TheVariants.{By, Distinct}
 use Rattle.sql_grammar.specs.declared.class.Word.TheVariants.{From, Group as GroupKey, Limit as LimitKey, Offset as OffsetKey, Order, Select as SelectKey}
 use Rattle.sql_grammar.specs.declared.class.Symbol.TheVariants.{Open, Close, Comma, Dot, Star}
@@ -10,8 +11,8 @@ use Rattle.sql_grammar.specs.declared.table.Item.{Item}
 use Rattle.sql_grammar.specs.declared.table.Item.TheVariants.{MoreResults, AfterResult, Keyword, Sign, FreeWord, Label, Digits, Ends, MaybeAlias, MoreJoins, MoreGroups, MaybeWhere, AfterQualifier, MaybeOrder, MaybeLimit, MaybeOffset, AfterDistinct, PlainItem, AfterPlain, PlainNext, PlainTail, MoreGroupedItems, Argument, MaybeGroup, MoreGroupColumns}
 use Rattle.sql_grammar.specs.Syntax.{distinct_select, IsOffered, Key, Mark, Col, bare, Output, every, one, Alias, no_alias, relation, Join, Group, group_of, Where, no_where, Select, select_from, Ending, semicolon, text_end, OrderBy, no_order, no_limit, most_rows, no_offset, skipped_rows, WindowTree, window, no_explain, explain, ordered_select, MaybeExplain, unexplained, explained, GroupedItem as ItemTree, plain_item, call, GroupBy, group_by, is_call, has_call, is_written, Holds, IsGrouped, grouped_select, query, grouped}
 use Rattle.sql_grammar.specs.Words.{words_of_output, words_of_outputs, words_of_alias, words_of_joins, words_of_group, words_of_groups, words_of_where, words_of_select, words_of_order, words_of_limit, words_of_offset, words_of_window, words_of_ending, words_of_maybe_explain, words_of_argument, words_of_grouped_item, words_of_grouped_items, words_of_group_by, words_of_group_columns, levels_of_joins, levels_of_groups, levels_of_where, levels_of_select}
-use Rattle.sql_grammar.specs.Table.{takes_of}
-use Rattle.sql_grammar.specs.Machine.{depth_of}
+use Rattle.sql_grammar.specs.work.Table.{takes_of}
+use Rattle.sql_grammar.specs.work.Machine.{depth_of}
 use Rattle.sql_grammar.proofs.Forest.{Part, Parts, words_of_parts, IsRule, Statement_of, words_of_led, begun}
 use Rattle.sql_grammar.proofs.FromRules as froms
 use Rattle.sql_grammar.proofs.OrderRules as orders

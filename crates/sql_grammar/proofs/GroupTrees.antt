@@ -8,7 +8,7 @@ use Rattle.sql_grammar.specs.declared.class.Free.TheVariants.{Distinct}
 use Rattle.sql_grammar.specs.declared.offered.TheConstants.{READS_DISTINCT}
 use Rattle.sql_lex.specs.declared.tokens.Token.{Token}
 use Rattle.sql_grammar.specs.Syntax.{Key, Mark, Col, bare, qualified, Output, every, every_of, one, Group, Where, Select, select_from, Ending, semicolon, text_end, OrderBy, no_order, order_by, no_limit, most_rows, no_offset, skipped_rows, WindowTree, window, no_explain, explain, explain_table, OrderedSelect, ordered_select, MaybeExplain, unexplained, explained, Argument, all_rows, of_col, GroupedItem, plain_item, call, GroupBy, no_group_by, group_by, is_call, has_call, is_written, Holds, IsGrouped, GroupedSelect, distinct_select, grouped_select}
-use Rattle.sql_grammar.specs.Unique.{ends_operand}
+use Rattle.sql_grammar.specs.work.Unique.{ends_operand}
 use Rattle.sql_grammar.specs.Words.{words_of_col, words_of_output, words_of_select, words_of_order, words_of_window, words_of_ending, words_of_ordered, words_of_maybe_explain, words_of_argument, words_of_grouped_item, words_of_grouped_items, words_of_group_columns, words_of_group_by, words_of_grouped}
 use Rattle.sql_grammar.proofs.ExprTrees.{one_offered, tested}
 use Rattle.sql_grammar.proofs.ListLemmas.{one_list}

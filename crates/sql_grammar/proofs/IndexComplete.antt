@@ -11,7 +11,7 @@ use Rattle.sql_grammar.specs.Syntax.{Direction, no_direction, ascending, descend
 use Rattle.sql_grammar.specs.Words.{words_of_direction, words_of_nulls_end}
 use Rattle.sql_grammar.specs.Syntax.{IsClassName, no_class, op_class, KeyTree, index_key, Using, no_using, using_method, Include, no_include, include_columns, CreateIndex, index_on, Cand, cand_on}
 use Rattle.sql_grammar.specs.Words.{words_of_key, words_of_keys, words_of_using, words_of_names, words_of_include, words_of_index, words_of_cand, levels_of_index, levels_of_cand}
-use Rattle.sql_grammar.specs.Machine.{depth_of, takes_all}
+use Rattle.sql_grammar.specs.work.Machine.{depth_of, takes_all}
 use Rattle.sql_grammar.proofs.Complete.{Passes, EndsExpr, skip, apart, condition, ending}
 use Rattle.sql_grammar.proofs.OrderComplete.{sorted}
 

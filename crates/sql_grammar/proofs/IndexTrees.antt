@@ -11,7 +11,7 @@ use Rattle.sql_grammar.specs.Syntax.{IsClassName, ClassTree, no_class, op_class,
 use Rattle.sql_grammar.specs.Words.{words_of_where, words_of_ending}
 use Rattle.sql_grammar.specs.Words.{words_of_direction, words_of_nulls_end}
 use Rattle.sql_grammar.specs.Words.{words_of_class, words_of_key, words_of_keys, words_of_using, words_of_names, words_of_include, words_of_index, words_of_cand}
-use Rattle.sql_grammar.specs.Unique.{ends_expr, ends_cand}
+use Rattle.sql_grammar.specs.work.Unique.{ends_expr, ends_cand}
 use Rattle.sql_grammar.proofs.ExprTrees.{tested}
 use Rattle.sql_grammar.proofs.ListLemmas.{one_list}
 use Rattle.sql_grammar.proofs.Trees.{whereless, one_condition, one_ending}

@@ -16,11 +16,12 @@ use Rattle.sql_grammar.specs.declared.table.Item.{Item}
 use Rattle.sql_grammar.specs.declared.class.Word.{Word}
 use Rattle.sql_grammar.specs.declared.class.Word.TheVariants.{And, As, Asc, Create, Cross, Desc, False, From, Group, Inner, Is, Join, Limit as LimitWord, Not, Null, Offset, On, Or, Order, Select, Table, True, Using, Where, With}
 use Rattle.sql_grammar.specs.declared.class.Free.{Free}
-use Rattle.sql_grammar.specs.Terminals.{Terminal, t_name, t_quoted, class_of}
+use Rattle.sql_grammar.specs.Terminals.{Terminal, t_name, t_quoted}
+use Rattle.sql_grammar.specs.work.Terminals.{class_of}
 use Rattle.sql_grammar.specs.Reading.{spelling_of, free_spelling_of, reserved_words, free_words, reserved_of, free_of, ident_of, terminal_by, word_terminal, symbol_terminal}
-use Rattle.sql_grammar.specs.Machine.{step_of}
+use Rattle.sql_grammar.specs.work.Machine.{step_of}
 use Rattle.sql_grammar.specs.Faults.{bytes_of, limit_of}
-use Rattle.sql_grammar.specs.Walk.{StopsBy}
+use Rattle.sql_grammar.specs.work.Walk.{StopsBy}
 use Rattle.pg_base.specs.declared.faults.Code.TheVariants.{S15}
 
 never-by : (b : Bool) (l : Limit) → ¬ (Some l ≡ Some Depth) → cond b None (Some l) ≡ Some Depth → ⊥

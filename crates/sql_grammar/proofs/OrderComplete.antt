@@ -7,7 +7,7 @@ use Rattle.sql_grammar.specs.Syntax.{Mark, bare, qualified, Select, Ending, Wind
 use Rattle.sql_grammar.specs.Words.{words_of_select, words_of_window, words_of_ending, levels_of_select}
 use Rattle.sql_grammar.specs.Syntax.{Direction, no_direction, ascending, descending, NullsEnd, no_nulls_end, nulls_first, nulls_last, Ordering, ordering, OrderBy, no_order, order_by, WindowedSelect, windowed_select}
 use Rattle.sql_grammar.specs.Words.{words_of_direction, words_of_nulls_end, words_of_ordering, words_of_orderings, words_of_order, words_of_windowed, levels_of_windowed}
-use Rattle.sql_grammar.specs.Machine.{depth_of, takes_all}
+use Rattle.sql_grammar.specs.work.Machine.{depth_of, takes_all}
 use Rattle.sql_grammar.proofs.Complete.{Passes, EndsSelect, skip, apart, ending}
 use Rattle.sql_grammar.proofs.WindowComplete.{EndsOrder, EndsWindow, window-order, ending-window, nothing-window, windowed}
 use Rattle.sql_grammar.proofs.FromComplete.{selected}

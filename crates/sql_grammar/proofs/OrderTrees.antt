@@ -8,7 +8,7 @@ use Rattle.sql_grammar.specs.declared.offered.TheConstants.{READS_TABLE}
 use Rattle.sql_grammar.specs.Terminals.{Terminal, free, t_key, t_mark, t_name, t_semicolon, t_end}
 use Rattle.sql_grammar.specs.Syntax.{Mark, Col, column, Select, select_from, no_limit, most_rows, no_offset, skipped_rows, WindowTree, window, Ending, semicolon, text_end}
 use Rattle.sql_grammar.specs.Syntax.{Direction, no_direction, ascending, descending, NullsEnd, no_nulls_end, nulls_first, nulls_last, Ordering, ordering, OrderBy, no_order, order_by, WindowedSelect, windowed_select, no_explain, explain, explain_table, OrderedSelect, ordered_select}
-use Rattle.sql_grammar.specs.Unique.{ends_operand, ends_windowed}
+use Rattle.sql_grammar.specs.work.Unique.{ends_operand, ends_windowed}
 use Rattle.sql_grammar.specs.Words.{words_of_col, words_of_select, words_of_window, words_of_ending}
 use Rattle.sql_grammar.specs.Words.{words_of_direction, words_of_nulls_end, words_of_ordering, words_of_orderings, words_of_order, words_of_windowed, words_of_ordered}
 use Rattle.sql_grammar.proofs.ExprTrees.{one_offered, one_operand, tested}

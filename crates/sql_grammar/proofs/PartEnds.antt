@@ -13,8 +13,9 @@ use Rattle.sql_grammar.specs.Terminals.{Terminal, t_mark, t_semicolon, t_end}
 use Rattle.sql_grammar.specs.Reading.{terminal_of}
 use Rattle.sql_grammar.specs.Syntax.{WindowedSelect, Cand}
 use Rattle.sql_grammar.specs.Words.{words_of_windowed, words_of_cand, levels_of_windowed, levels_of_cand}
-use Rattle.sql_grammar.specs.Unique.{ends_windowed, ends_cand}
-use Rattle.sql_grammar.specs.Faults.{Production, IsWindowed, IsCand, IsPrefix, IsAtFault, IsFirstFault, EndsAt, IsPartEnd, AreWithinLimits, limit_of, terminals}
+use Rattle.sql_grammar.specs.work.Unique.{ends_windowed, ends_cand}
+use Rattle.sql_grammar.specs.Faults.{Production, IsPrefix, IsAtFault, IsFirstFault, AreWithinLimits, limit_of, terminals}
+use Rattle.sql_grammar.specs.work.Faults.{IsWindowed, IsCand, EndsAt, IsPartEnd}
 use Rattle.sql_grammar.proofs.OrderTrees.{one_windowed}
 use Rattle.sql_grammar.proofs.IndexTrees.{one_cand}
 

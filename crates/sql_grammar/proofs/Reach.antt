@@ -7,17 +7,19 @@ use Rattle.pg_base.specs.declared.faults.Limit.TheVariants.{Depth}
 use Rattle.pg_base.specs.declared.faults.Fault.{Fault}
 use Rattle.pg_base.specs.declared.limits.TheConstants.{MOST_LEVELS}
 use Rattle.sql_lex.specs.declared.tokens.Token.{Token}
-use Rattle.sql_grammar.specs.Terminals.{Terminal, class_of}
+use Rattle.sql_grammar.specs.Terminals.{Terminal}
+use Rattle.sql_grammar.specs.work.Terminals.{class_of}
 use Rattle.sql_grammar.specs.Reading.{terminal_of}
 use Rattle.sql_grammar.specs.declared.class.Class.{Class}
 use Rattle.sql_grammar.specs.declared.table.Item.{Item}
 use Rattle.sql_grammar.specs.declared.table.Item.TheVariants.{Whole, Query, Negation, MoreAnds, MoreOrs, MaybeOrder, MaybeLimit, MaybeOffset, Candidate}
-use Rattle.sql_grammar.specs.Table.{Expansion, takes_of, is_optional}
-use Rattle.sql_grammar.specs.Machine.{depth_of, opens, by_row, step_of, and_then, run_of, may_end, takes_then, takes_all, is_closed}
+use Rattle.sql_grammar.specs.work.Table.{Expansion, takes_of, is_optional}
+use Rattle.sql_grammar.specs.work.Machine.{depth_of, opens, by_row, step_of, and_then, run_of, may_end, takes_then, takes_all, is_closed}
 use Rattle.sql_grammar.specs.Syntax.{either_of, both_of, window, windowed_select}
 use Rattle.sql_grammar.specs.Words.{words_of, words_of_select, words_of_order, words_of_limit, words_of_offset, words_of_cand, words_of_neg, words_of_ands, words_of_ors}
-use Rattle.sql_grammar.specs.Faults.{Production, IsStatement, IsSelect, IsWindowed, IsCand, IsExpr, IsPrefix, IsAtFault, IsFirstFault, EndsAt, IsPartEnd, IsWhole, terminals, AreWithinLimits}
-use Rattle.sql_grammar.specs.Walk.{StopsBy, IsUnawaitedAt, WalkEnds, WalkStops, IsWalk}
+use Rattle.sql_grammar.specs.Faults.{Production, IsStatement, IsPrefix, IsAtFault, IsFirstFault, terminals, AreWithinLimits}
+use Rattle.sql_grammar.specs.work.Faults.{IsSelect, IsWindowed, IsCand, IsExpr, EndsAt, IsPartEnd, IsWhole}
+use Rattle.sql_grammar.specs.work.Walk.{StopsBy, IsUnawaitedAt, WalkEnds, WalkStops, IsWalk}
 use Rattle.sql_grammar.proofs.Forest.{Parts, words_of_parts}
 use Rattle.sql_grammar.proofs.Sound.{begun, ended}
 use Rattle.sql_grammar.proofs.Complete.{alone}

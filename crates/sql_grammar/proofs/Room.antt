@@ -6,9 +6,9 @@ use Rattle.sql_grammar.specs.declared.class.Class.{Class}
 use Rattle.sql_grammar.specs.declared.class.Class.TheVariants.{Key, Mark, Name, Number, Quoted, Operator, Semicolon, End}
 use Rattle.sql_grammar.specs.declared.table.Item.{Item}
 use Rattle.sql_grammar.specs.declared.table.Item.TheVariants.{Whole, Closes, NotEnds}
-use Rattle.sql_grammar.specs.Table.{Expansion, GrammarRow, leads, row_for, all_rows_of, takes_of, takes_end, is_ending, is_optional, room_of}
-use Rattle.sql_grammar.specs.Machine.{depth_of, is_empty, is_closed, opens, pushed, by_row, step_of, Fits}
-use Rattle.sql_grammar.specs.Steps.{Taken}
+use Rattle.sql_grammar.specs.work.Table.{Expansion, GrammarRow, leads, row_for, all_rows_of, takes_of, takes_end, is_ending, is_optional, room_of}
+use Rattle.sql_grammar.specs.work.Machine.{depth_of, is_empty, is_closed, opens, pushed, by_row, step_of, Fits}
+use Rattle.sql_grammar.specs.work.Steps.{Taken}
 use Rattle.sql_grammar.proofs.RoomTests.{room_test, row_test, rows_test}
 use Rattle.sql_grammar.proofs.Sound.{flat-depth}
 

@@ -2,8 +2,8 @@
 use Rattle.std.proofs.Common.{ℕ, ◌+◌, ◌*◌, Bool, true, false, ◌&&◌, not, List, [], ◌∷◌, length, Some, None, cond, nat_le}
 use Rattle.sql_grammar.specs.declared.class.Class.{Class}
 use Rattle.sql_grammar.specs.declared.table.Item.{Item}
-use Rattle.sql_grammar.specs.Table.{Expansion, GrammarRow, takes_end, is_ending, room_of}
-use Rattle.sql_grammar.specs.Machine.{depth_of, is_empty, is_closed}
+use Rattle.sql_grammar.specs.work.Table.{Expansion, GrammarRow, takes_end, is_ending, room_of}
+use Rattle.sql_grammar.specs.work.Machine.{depth_of, is_empty, is_closed}
 
 -- no more cells than the item's room
 abbrev pub room_test : ℕ → List Item → Bool

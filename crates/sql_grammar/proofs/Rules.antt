@@ -2,7 +2,8 @@
 use Rattle.std.proofs.Common.{◌≡◌, ℕ, ◌≤◌, Bool, true, false, List, [], ◌∷◌, ◌++◌, Some, None, refl, sym, ap, ◌∙◌, arith, append_assoc, append-nil, cond, nat_eq, drop}
 use Rattle.sql_lex.specs.declared.tokens.Token.{Token}
 use Rattle.sql_lex.specs.declared.tokens.Kind.TheVariants.{End}
-use Rattle.sql_grammar.specs.Terminals.{Terminal, Ident, Said, t_key, t_mark, t_name, t_number, t_quoted, t_operator, t_semicolon, t_end, free, other, class_of}
+use Rattle.sql_grammar.specs.Terminals.{Terminal, Ident, Said, t_key, t_mark, t_name, t_number, t_quoted, t_operator, t_semicolon, t_end, free, other}
+use Rattle.sql_grammar.specs.work.Terminals.{class_of}
 use Rattle.sql_grammar.specs.declared.class.Free.TheVariants.{Between, Common, Copy, Distinct, Explain, Full, Histogram, In, Left, Natural, Outer, Right, Last, Nulls, Pages, Rows, Statistics, Include as IncludeWord, Index as IndexWord, By, First, Advise as AdviseWord, Analyze, Check, Use}
 use Rattle.sql_grammar.specs.declared.class.Free.{Free as FreeT}
 use Rattle.sql_grammar.specs.declared.class.Word.{Word}
@@ -16,8 +17,8 @@ use Rattle.sql_grammar.specs.Words.{words_of_lit, words_of_bounds, words_of_oper
 use Rattle.sql_grammar.specs.Syntax.{no_direction, no_nulls_end, nulls_last, no_order, no_limit, no_offset, window, windowed_select, unexplained, explained, all_rows, plain_item, no_group_by}
 use Rattle.sql_grammar.specs.Syntax.{no_class, index_key, no_using, no_include, cand_on, advised}
 use Rattle.sql_grammar.proofs.Codes.{same_word, same_sign, same_free}
-use Rattle.sql_grammar.specs.Table.{word_code, sign_code, free_code, Expansion, takes_of, is_optional}
-use Rattle.sql_grammar.specs.Machine.{depth_of}
+use Rattle.sql_grammar.specs.work.Table.{word_code, sign_code, free_code, Expansion, takes_of, is_optional}
+use Rattle.sql_grammar.specs.work.Machine.{depth_of}
 use Rattle.sql_grammar.proofs.Forest.{Atom_after, Part, words_of_part, Parts, words_of_parts, IsRule}
 use Rattle.sql_grammar.proofs.FromRules as froms
 use Rattle.sql_grammar.proofs.OrderRules as orders

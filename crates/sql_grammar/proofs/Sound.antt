@@ -1,11 +1,12 @@
 -- What the walk takes begins a statement; what it takes to an end is one.
 use Rattle.std.proofs.Common.{◌≡◌, ℕ, ◌≤◌, Bool, true, false, List, [], ◌∷◌, ◌++◌, Option, Some, None, refl, ap, ◌∙◌, subst, arith, append-nil, cond, nat_le}
 use Rattle.std.proofs.lemmas.Bool.{leb-true, and_parts}
-use Rattle.sql_grammar.specs.Terminals.{Terminal, class_of}
+use Rattle.sql_grammar.specs.Terminals.{Terminal}
+use Rattle.sql_grammar.specs.work.Terminals.{class_of}
 use Rattle.sql_grammar.specs.declared.table.Item.{Item}
 use Rattle.sql_grammar.specs.declared.table.Item.TheVariants.{Closes, NotEnds}
-use Rattle.sql_grammar.specs.Table.{Expansion, takes_of, is_optional}
-use Rattle.sql_grammar.specs.Machine.{depth_of, opens, pushed, by_row, step_of, and_then, run_of, may_end}
+use Rattle.sql_grammar.specs.work.Table.{Expansion, takes_of, is_optional}
+use Rattle.sql_grammar.specs.work.Machine.{depth_of, opens, pushed, by_row, step_of, and_then, run_of, may_end}
 use Rattle.sql_grammar.proofs.Forest.{Parts, words_of_parts}
 use Rattle.sql_grammar.proofs.Rules.{Rule, rule, nothing, something}
 

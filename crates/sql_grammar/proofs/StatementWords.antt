@@ -10,9 +10,10 @@ use Rattle.sql_lex.specs.declared.tokens.Kind.TheVariants.{Word as WordKind, Num
 use Rattle.sql_lex.specs.Forms.{IsToken, symbols}
 use Rattle.sql_lex.specs.Words.{AreWords, IsNext, ends_with, is_last}
 use Rattle.sql_grammar.specs.declared.class.Word.{Word}
-use Rattle.sql_grammar.specs.Terminals.{class_of}
-use Rattle.sql_grammar.specs.Table.{is_ending}
-use Rattle.sql_grammar.specs.Reading.{terminal_by, word_terminal, symbol_terminal, bytes_of_token, is_end, ends_once, IsWithin, AreTokens}
+use Rattle.sql_grammar.specs.work.Terminals.{class_of}
+use Rattle.sql_grammar.specs.work.Table.{is_ending}
+use Rattle.sql_grammar.specs.Reading.{terminal_by, word_terminal, symbol_terminal, bytes_of_token}
+use Rattle.sql_grammar.specs.work.Reading.{is_end, ends_once, IsWithin, AreTokens}
 
 listed : (p : List ℕ → Bool) (xs : List (List ℕ)) (x : List ℕ) (k : ℕ) → list_all p xs ≡ true → k < length xs → get_or xs k x ≡ x → p x ≡ true
 listed p [] x k all lt is = absurd (omega (arith, lt))

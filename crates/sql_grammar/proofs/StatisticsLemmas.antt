@@ -6,7 +6,7 @@ use Rattle.sql_grammar.specs.declared.class.Free.TheVariants.{Common as CommonWo
 use Rattle.sql_grammar.specs.declared.class.Symbol.TheVariants.{Open, Close, Comma}
 use Rattle.sql_grammar.specs.Terminals.{Terminal, free, t_mark, t_name, t_number}
 use Rattle.sql_grammar.specs.Syntax.{Mark, Lit, literal, Share, share, CommonPart, no_common, common, Histogram, no_histogram, histogram}
-use Rattle.sql_grammar.specs.Unique.{ends_operand}
+use Rattle.sql_grammar.specs.work.Unique.{ends_operand}
 use Rattle.sql_grammar.specs.Words.{words_of_lit, words_of_share, words_of_shares, words_of_common, words_of_bounds, words_of_histogram}
 use Rattle.sql_grammar.proofs.ListLemmas.{one_list}
 use Rattle.sql_grammar.proofs.ExprTrees.{bounds_closed, bounds-end, one_bounds, one_lit, tested}

@@ -6,7 +6,7 @@ use Rattle.sql_grammar.specs.declared.class.Symbol.TheVariants.{Close, Comma, Do
 use Rattle.sql_grammar.specs.Terminals.{Terminal, Ident, free, t_key, t_mark, t_name}
 use Rattle.sql_grammar.specs.declared.class.Free.TheVariants.{Full, Left, Natural, Outer, Right}
 use Rattle.sql_grammar.specs.Syntax.{Key, Mark, IsBareAlias, bare, qualified, Nulls, unwritten, not_null, nullable, ColDef, coldef, Output, every, every_of, one, Alias, no_alias, bare_alias, as_alias, Where, no_where, where_expr, Ending, semicolon, text_end}
-use Rattle.sql_grammar.specs.Unique.{ends_operand, ends_expr}
+use Rattle.sql_grammar.specs.work.Unique.{ends_operand, ends_expr}
 use Rattle.sql_grammar.specs.Words.{words_of_nulls, words_of_coldef, words_of_columns, words_of_output, words_of_outputs, words_of_alias, words_of_where, words_of_ending}
 use Rattle.sql_grammar.proofs.ExprTrees.{one_expr, tested}
 use Rattle.sql_grammar.proofs.ListLemmas.{one_list}

@@ -9,11 +9,13 @@ use Rattle.pg_base.specs.declared.faults.Code.{Code}
 use Rattle.pg_base.specs.declared.limits.TheConstants.{MOST_LEVELS}
 use Rattle.sql_lex.specs.declared.tokens.Token.{Token}
 use Rattle.sql_grammar.specs.declared.table.Item.{Item}
-use Rattle.sql_grammar.specs.Terminals.{Terminal, class_of}
-use Rattle.sql_grammar.specs.Reading.{terminal_of, is_end, ends_once, AreTokens}
-use Rattle.sql_grammar.specs.Machine.{depth_of, run_of, may_end, Fits, is_closed}
+use Rattle.sql_grammar.specs.Terminals.{Terminal}
+use Rattle.sql_grammar.specs.work.Terminals.{class_of}
+use Rattle.sql_grammar.specs.Reading.{terminal_of}
+use Rattle.sql_grammar.specs.work.Reading.{is_end, ends_once, AreTokens}
+use Rattle.sql_grammar.specs.work.Machine.{depth_of, run_of, may_end, Fits, is_closed}
 use Rattle.sql_grammar.specs.Faults.{terminals, limit_of, AreWithinLimits, fault_at}
-use Rattle.sql_grammar.specs.Walk.{TakenOn, IsUnawaited, IsUnawaitedAt, StopsBy, WalkEnds, WalkStops}
+use Rattle.sql_grammar.specs.work.Walk.{TakenOn, IsUnawaited, IsUnawaitedAt, StopsBy, WalkEnds, WalkStops}
 use Rattle.sql_grammar.proofs.Endings.{Closed, step-closed, still-open}
 use Rattle.sql_grammar.proofs.Reach.{run-snoc}
 

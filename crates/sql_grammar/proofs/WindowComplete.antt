@@ -9,7 +9,7 @@ use Rattle.sql_grammar.specs.declared.table.Item.{Item}
 use Rattle.sql_grammar.specs.declared.table.Item.TheVariants.{Digits, AfterQualifier, MaybeDirection, MaybeNulls, MaybeLimit, MaybeOffset, MaybeOrder, MoreOrderings}
 use Rattle.sql_grammar.specs.Syntax.{Mark, IsOffered, LimitTree, no_limit, most_rows, Offset, no_offset, skipped_rows, WindowTree, window, Ending, semicolon, text_end}
 use Rattle.sql_grammar.specs.Words.{words_of_limit, words_of_offset, words_of_window, words_of_ending}
-use Rattle.sql_grammar.specs.Machine.{by_row, step_of, takes_then, takes_all}
+use Rattle.sql_grammar.specs.work.Machine.{by_row, step_of, takes_then, takes_all}
 use Rattle.sql_grammar.proofs.Complete.{Passes, EndsSelect, skip, apart, after-query}
 
 -- what follows an order: no further column, and nothing that goes on its last one

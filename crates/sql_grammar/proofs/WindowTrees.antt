@@ -6,7 +6,7 @@ use Rattle.sql_grammar.specs.declared.offered.TheConstants.{READS_WINDOW}
 use Rattle.sql_grammar.specs.Terminals.{Terminal, t_key}
 use Rattle.sql_grammar.specs.Syntax.{LimitTree, no_limit, most_rows, Offset, no_offset, skipped_rows, WindowTree, window}
 use Rattle.sql_grammar.specs.Words.{words_of_limit, words_of_offset, words_of_window}
-use Rattle.sql_grammar.specs.Unique.{ends_windowed}
+use Rattle.sql_grammar.specs.work.Unique.{ends_windowed}
 use Rattle.sql_grammar.proofs.ExprTrees.{one_offered, tested}
 
 -- a production is in the grammar in one way

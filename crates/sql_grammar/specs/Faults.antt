@@ -1,6 +1,6 @@
 -- Which lists of terminals are statements, and where a list of tokens leaves the grammar: told of the lists that are
 -- statements alone (codes 42601 and 54000: PostgreSQL manual, appendix Error Codes; the numbers of the limits are own).
-use Rattle.std.specs.Prelude.{◌≡◌, ℕ, ◌+◌, ◌≤◌, List, [], ◌∷◌, ◌++◌, length, map, drop, All, Option, Some, None, MatchOption, Result, Ok, Err, cond, nat_le}
+use Rattle.std.specs.Prelude.{◌≡◌, ℕ, ◌+◌, ◌≤◌, List, [], ◌∷◌, ◌++◌, length, map, All, Option, Some, None, cond, nat_le}
 use Rattle.pg_base.specs.declared.faults.Code.{Code}
 use Rattle.pg_base.specs.declared.faults.Code.TheVariants.{S1, S15}
 use Rattle.pg_base.specs.declared.faults.Limit.{Limit}
@@ -11,8 +11,8 @@ use Rattle.pg_base.specs.declared.limits.TheConstants.{MOST_LEVELS, MOST_NAME_BY
 use Rattle.sql_lex.specs.declared.tokens.Token.{Token}
 use Rattle.sql_grammar.specs.Terminals.{Ident, free, other, Terminal, t_name, t_quoted}
 use Rattle.sql_grammar.specs.Reading.{free_spelling_of, terminal_of}
-use Rattle.sql_grammar.specs.Syntax.{Statement, Select, WindowedSelect, Cand, Expr}
-use Rattle.sql_grammar.specs.Words.{words_of, words_of_select, words_of_windowed, words_of_cand, words_of_expr, levels_of, levels_of_select, levels_of_windowed, levels_of_cand, levels_of_expr}
+use Rattle.sql_grammar.specs.Syntax.{Statement}
+use Rattle.sql_grammar.specs.Words.{words_of, levels_of}
 
 -- lists of terminals, by the levels that their expressions may have
 abbrev pub Production : Type 1
@@ -21,22 +21,6 @@ Production = ℕ → List Terminal → Type 0
 -- a statement with its end
 abbrev pub IsStatement : Production
 IsStatement limit ts = (x : Statement) × (levels_of x ≤ limit) × (words_of x ≡ ts)
-
--- a SELECT
-abbrev pub IsSelect : Production
-IsSelect limit ts = (q : Select) × (levels_of_select q ≤ limit) × (words_of_select q ≡ ts)
-
--- a SELECT with its order and its window, where they are written
-abbrev pub IsWindowed : Production
-IsWindowed limit ts = (x : WindowedSelect) × (levels_of_windowed x ≤ limit) × (words_of_windowed x ≡ ts)
-
--- CREATE INDEX without its first two words and its end
-abbrev pub IsCand : Production
-IsCand limit ts = (x : Cand) × (levels_of_cand x ≤ limit) × (words_of_cand x ≡ ts)
-
--- an expression
-abbrev pub IsExpr : Production
-IsExpr limit ts = (e : Expr) × (levels_of_expr e ≤ limit) × (words_of_expr e ≡ ts)
 
 -- some list of the production begins so
 abbrev pub IsPrefix : Production → Production
@@ -89,28 +73,3 @@ pub record IsFirstFault (Of : Production) (text : List ℕ) (tokens : List Token
   pub cause : IsAtFault Of (terminals text before) (terminal_of text token) fault.code
   pub unfinished : fault.code ≡ S1 → (limit : ℕ) → ¬ Of limit (terminals text before)
   pub place : fault ≡ fault_at fault.code token
-
--- the longest list of tokens from `first` on that begins the production is whole, within the limits, and ends before token `end`
-pub record EndsAt (Of : Production) (text : List ℕ) (tokens : List Token) (first end : ℕ) : Type 0 where
-  pub before : List Token
-  pub token : Token
-  pub after : List Token
-  pub split : drop first tokens ≡ before ++ token ∷ after
-  pub place : end ≡ first + length before
-  pub whole : Of MOST_LEVELS (terminals text before)
-  pub within : AreWithinLimits (terminals text before)
-  pub longest : (limit : ℕ) → ¬ IsPrefix Of limit (terminals text before ++ terminal_of text token ∷ [])
-
--- the end of the part of the statement that begins at token `first`, or its first fault
-abbrev pub IsPartEnd : Production → List ℕ → List Token → ℕ → Result ℕ Fault → Type 0
-IsPartEnd Of text tokens first (Ok end) = EndsAt Of text tokens first end
-IsPartEnd Of text tokens first (Err fault) = IsFirstFault Of text (drop first tokens) fault
-
--- tokens are a statement within the limits
-pub record IsWhole (text : List ℕ) (tokens : List Token) : Type 0 where
-  pub statement : IsStatement MOST_LEVELS (terminals text tokens)
-  pub within : AreWithinLimits (terminals text tokens)
-
--- the first fault of a statement; none where the tokens are a statement within the limits
-abbrev pub IsStatementFault : List ℕ → List Token → Option Fault → Type 0
-IsStatementFault text tokens told = MatchOption told (IsWhole text tokens) (λ f. IsFirstFault IsStatement text tokens f)

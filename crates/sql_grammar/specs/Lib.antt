@@ -2,12 +2,8 @@ pub mod Terminals
 pub mod Syntax
 pub mod Words
 pub mod FromParts
-pub mod Table
-pub mod Machine
-pub mod Steps
 pub mod Reading
 pub mod Faults
 pub mod Spelled
-pub mod Walk
 pub mod CopyLine
-pub mod Unique
+pub mod work

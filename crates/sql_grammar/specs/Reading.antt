@@ -1,5 +1,5 @@
 -- Which terminal a token is, by its bytes (PostgreSQL manual, chapter SQL Syntax, Lexical Structure).
-use Rattle.std.specs.Prelude.{◌≡◌, ℕ, ◌-◌, ◌^◌, ◌<◌, ◌≤◌, All, Bool, true, false, List, [], ◌∷◌, length, map, take, drop, slice_range, Option, Some, None, cond, nat_eq}
+use Rattle.std.specs.Prelude.{ℕ, ◌-◌, Bool, true, false, List, [], ◌∷◌, length, map, take, drop, slice_range, Option, Some, None, cond, nat_eq}
 use Rattle.std.specs.List.{find}
 use Rattle.std.specs.Str.{bytes_eq}
 use Rattle.std.specs.Char.{to_ascii_lowercase}
@@ -11,8 +11,7 @@ use Rattle.sql_grammar.specs.declared.class.Word.TheVariants.{And, As, Asc, Crea
 use Rattle.sql_grammar.specs.declared.class.Free.{Free}
 use Rattle.sql_grammar.specs.declared.class.Free.TheVariants.{Advise, Analyze, Between, By, Check, Common, Copy, Csv, Distinct, Explain, First, Format, Full, Histogram, In, Include, Index, Last, Left, Natural, Nulls, Outer, Pages, Plan, Right, Rows, Statistics, Stdin, Use}
 use Rattle.sql_grammar.specs.declared.class.Symbol.TheVariants.{Open, Close, Comma, Dot, Minus, Star}
-use Rattle.sql_grammar.specs.Terminals.{Ident, free, other, Terminal, t_key, t_mark, t_name, t_number, t_quoted, t_operator, t_semicolon, t_end, class_of}
-use Rattle.sql_grammar.specs.Table.{is_ending}
+use Rattle.sql_grammar.specs.Terminals.{Ident, free, other, Terminal, t_key, t_mark, t_name, t_number, t_quoted, t_operator, t_semicolon, t_end}
 
 -- the reserved words in small letters
 abbrev pub spelling_of : Word → List ℕ
@@ -136,23 +135,3 @@ terminal_by EndKind bytes token = t_end token
 -- the terminal of a token of this text
 abbrev pub terminal_of : List ℕ → Token → Terminal
 terminal_of text token = terminal_by token.kind (bytes_of_token text token) token
-
--- the token stands in the text
-pub record IsWithin (text : List ℕ) (token : Token) : Type 0 where
-  pub ordered : token.start ≤ token.end
-  pub inside : token.end ≤ length text
-
--- `;` or the text's end
-abbrev pub is_end : List ℕ → Token → Bool
-is_end text token = is_ending (class_of (terminal_of text token))
-
--- the last token, and no other, is an end
-abbrev pub ends_once : List ℕ → List Token → Bool
-ends_once text [] = false
-ends_once text (token ∷ tokens) = cond (is_end text token) (nat_eq (length tokens) 0) (ends_once text tokens)
-
--- the tokens are words of this text up to a statement's end
-pub record AreTokens (text : List ℕ) (tokens : List Token) : Type 0 where
-  pub inside : All (IsWithin text) tokens
-  pub few : length tokens < 2 ^ 32
-  pub last : ends_once text tokens ≡ true

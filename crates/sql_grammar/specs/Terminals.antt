@@ -1,11 +1,9 @@
 -- The terminals of the grammar: words with what they say and where they stand.
-use Rattle.std.specs.Prelude.{ℕ, List, Option, Some, None}
+use Rattle.std.specs.Prelude.{ℕ, List}
 use Rattle.sql_lex.specs.declared.tokens.Token.{Token}
 use Rattle.sql_grammar.specs.declared.class.Word.{Word}
 use Rattle.sql_grammar.specs.declared.class.Symbol.{Symbol}
 use Rattle.sql_grammar.specs.declared.class.Free.{Free}
-use Rattle.sql_grammar.specs.declared.class.Class.{Class}
-use Rattle.sql_grammar.specs.declared.class.Class.TheVariants.{Key, Mark, Name, Number, Quoted, Operator, Semicolon, End}
 
 -- a name with its token: a word with a place of its own in the grammar, or another one by its bytes in small letters (own)
 pub data Ident : Type 0 where
@@ -28,23 +26,7 @@ pub data Terminal : Type 0 where
   t_semicolon : Token → Terminal
   t_end : Token → Terminal
 
--- a name's place in the grammar, where it has one
-abbrev pub place_of : Ident → Option Free
-place_of (free w _) = Some w
-place_of (other _ _) = None
-
 -- its token
 abbrev pub token_of : Ident → Token
 token_of (free _ t) = t
 token_of (other _ t) = t
-
--- what the grammar sees of a terminal
-abbrev pub class_of : Terminal → Class
-class_of (t_key w _) = Key w
-class_of (t_mark s _) = Mark s
-class_of (t_name i) = Name (place_of i)
-class_of (t_number _) = Number
-class_of (t_quoted _) = Quoted
-class_of (t_operator _) = Operator
-class_of (t_semicolon _) = Semicolon
-class_of (t_end _) = End

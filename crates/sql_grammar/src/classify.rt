@@ -4,8 +4,9 @@ ghost use Rattle.std.specs.Prelude.{◌≡◌, ◌≤◌, length, map, slice_ran
 ghost use Rattle.std.specs.Char.{to_ascii_lowercase};
 ghost use Rattle.sql_lex.specs.declared.tokens.Kind.TheVariants.{Word as WordKind};
 ghost use Rattle.sql_lex.specs.declared.tokens.Token.{Token};
-ghost use Rattle.sql_grammar.specs.Terminals.{class_of as class_of_terminal};
-ghost use Rattle.sql_grammar.specs.Reading.{spelling_of, free_spelling_of, reserved_of, free_of, terminal_of, terminal_by, symbol_terminal, IsWithin};
+ghost use Rattle.sql_grammar.specs.work.Terminals.{class_of as class_of_terminal};
+ghost use Rattle.sql_grammar.specs.Reading.{spelling_of, free_spelling_of, reserved_of, free_of, terminal_of, terminal_by, symbol_terminal};
+ghost use Rattle.sql_grammar.specs.work.Reading.{IsWithin};
 
 use crate::class::{Class, Free, Symbol, Word};
 use sql_lex::{Kind, Token};

@@ -3,10 +3,10 @@
 ghost use Rattle.std.specs.Prelude.{◌≡◌, ◌≤◌, ◌^◌, ℕ, List, length};
 ghost use Rattle.sql_lex.specs.declared.tokens.Token.{Token};
 ghost use Rattle.sql_lex.specs.Words.{AreWords};
-ghost use Rattle.sql_grammar.specs.Faults.{IsCand, IsWindowed};
-ghost use Rattle.sql_grammar.specs.Reading.{AreTokens};
+ghost use Rattle.sql_grammar.specs.work.Faults.{IsCand, IsWindowed};
+ghost use Rattle.sql_grammar.specs.work.Reading.{AreTokens};
 ghost use Rattle.sql_grammar.specs.Syntax.{Expr, Statement};
-ghost use Rattle.sql_grammar.specs.Unique.{ends_cand, ends_expr, ends_windowed, HasItsEnd, HaveTheirTokens, IsOneAhead};
+ghost use Rattle.sql_grammar.specs.work.Unique.{ends_cand, ends_expr, ends_windowed, HasItsEnd, HaveTheirTokens, IsOneAhead};
 ghost use Rattle.sql_grammar.specs.Words.{words_of, words_of_cand, words_of_expr, words_of_windowed, levels_of_cand, levels_of_windowed};
 
 /// A list of terminals is the words of one statement at most. Where they are those of some tokens, the statement's tokens, in

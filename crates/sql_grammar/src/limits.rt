@@ -1,7 +1,8 @@
 //! The limits of a token by itself.
 
 ghost use Rattle.std.specs.Prelude.{◌≡◌, length};
-ghost use Rattle.sql_grammar.specs.Reading.{value_of_quoted, terminal_of, IsWithin};
+ghost use Rattle.sql_grammar.specs.Reading.{value_of_quoted, terminal_of};
+ghost use Rattle.sql_grammar.specs.work.Reading.{IsWithin};
 ghost use Rattle.sql_grammar.specs.Faults.{limit_of};
 
 use pg_base::{Limit, MOST_NAME_BYTES, MOST_TEXT_BYTES};

@@ -2,8 +2,8 @@
 
 ghost use Rattle.std.specs.Prelude.{◌≡◌, ◌≢◌, ℕ, ◌+◌, ◌*◌, ◌<◌, ◌≤◌, List, [], ◌∷◌, ◌++◌, length, Option, MatchOption, ◌==◌};
 ghost use Rattle.sql_grammar.specs.declared.table.Item.{Item};
-ghost use Rattle.sql_grammar.specs.Machine.{depth_of, Fits};
-ghost use Rattle.sql_grammar.specs.Steps.{IsPopped, IsStackStep};
+ghost use Rattle.sql_grammar.specs.work.Machine.{depth_of, Fits};
+ghost use Rattle.sql_grammar.specs.work.Steps.{IsPopped, IsStackStep};
 
 use crate::class::Class;
 use crate::table::{self, Item};
@@ -23,7 +23,7 @@ pub struct Stack {
 impl Model for Stack {
     ghost use Rattle.std.specs.Prelude.{List, reverse, take, ◌≤◌, ◌≡◌};
     ghost use Rattle.sql_grammar.specs.declared.table.Item.{Item};
-    ghost use Rattle.sql_grammar.specs.Machine.{depth_of};
+    ghost use Rattle.sql_grammar.specs.work.Machine.{depth_of};
 
     ghost Value = { List Item };
 

@@ -3,7 +3,7 @@
 //! Each entry takes a token: nothing is put in an item's place before one has come.
 
 ghost use Rattle.std.specs.Prelude.{◌≡◌, ◌≤◌};
-ghost use Rattle.sql_grammar.specs.Table.{IsExpansion, leads, lent_rows, row_for, lone_row, rows_of_item, takes_of, is_optional, level_of};
+ghost use Rattle.sql_grammar.specs.work.Table.{IsExpansion, leads, lent_rows, row_for, lone_row, rows_of_item, takes_of, is_optional, level_of};
 
 use crate::class::{Class, Free, Symbol, Word};
 use crate::rows::{self, ItemRows, Row};

@@ -5,10 +5,11 @@
 
 ghost use Rattle.std.specs.Prelude.{◌≡◌, ℕ, ◌^◌, ◌<◌, ◌≤◌, length, drop, true};
 ghost use Rattle.sql_lex.specs.Words.{AreWords};
-ghost use Rattle.sql_grammar.specs.Reading.{terminal_of, IsWithin, AreTokens};
-ghost use Rattle.sql_grammar.specs.Faults.{IsStatementFault, IsSelect, IsWindowed, IsCand, IsExpr, IsPartEnd};
-ghost use Rattle.sql_grammar.specs.Machine.{depth_of, Fits, is_closed};
-ghost use Rattle.sql_grammar.specs.Walk.{IsTaken, IsWalk};
+ghost use Rattle.sql_grammar.specs.Reading.{terminal_of};
+ghost use Rattle.sql_grammar.specs.work.Reading.{IsWithin, AreTokens};
+ghost use Rattle.sql_grammar.specs.work.Faults.{IsStatementFault, IsSelect, IsWindowed, IsCand, IsExpr, IsPartEnd};
+ghost use Rattle.sql_grammar.specs.work.Machine.{depth_of, Fits, is_closed};
+ghost use Rattle.sql_grammar.specs.work.Walk.{IsTaken, IsWalk};
 
 use crate::classify::class_of;
 use crate::fault::fault_at;

@@ -5,7 +5,7 @@ use Rattle.std.proofs.lemmas.Bool.{and_parts, eqb-true}
 use Rattle.std.proofs.lemmas.List.Sums.{prefix_len-le-length}
 use Rattle.sql_lex.specs.Letters.{is_space, is_in_line}
 use Rattle.sql_lex.specs.Blanks.{space, line, comment, HasNoBlank}
-use Rattle.sql_lex.specs.Cuts.{CutsBlank, CutsComment, IsNotClosed}
+use Rattle.sql_lex.specs.work.Cuts.{CutsBlank, CutsComment, IsNotClosed}
 use Rattle.sql_lex.proofs.RunLaws.{run_passes, run_stops}
 use Rattle.sql_lex.proofs.CommentLaws.{opens, opens_is}
 

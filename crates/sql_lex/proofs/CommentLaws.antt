@@ -4,7 +4,7 @@ use Rattle.std.proofs.lemmas.List.{drop-drop, take-append-drop, append_cancel_ri
 use Rattle.std.specs.Prelude.{if◌then◌else◌}
 use Rattle.std.specs.List.{starts_with}
 use Rattle.std.proofs.lemmas.Bool.{and_parts, or_parts, or_from, eqb-true}
-use Rattle.sql_lex.specs.Cuts.{CutsComment, IsNotClosed}
+use Rattle.sql_lex.specs.work.Cuts.{CutsComment, IsNotClosed}
 use Rattle.sql_lex.specs.Blanks.{ClosesComment, close, byte, nested}
 use Rattle.pg_base.proofs.ListLemmas.{joined-parts as joined}
 

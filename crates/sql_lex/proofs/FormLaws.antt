@@ -9,7 +9,7 @@ use Rattle.sql_lex.specs.declared.tokens.Kind.{Kind}
 use Rattle.sql_lex.specs.declared.tokens.Kind.TheVariants.{Word, Number, Quoted, Symbol, End}
 use Rattle.sql_lex.specs.Letters.{begins_word, is_in_word, goes_on_number, IsNotNext}
 use Rattle.sql_lex.specs.Forms.{IsToken, IsNumber, HasNoToken, quoted, doubled}
-use Rattle.sql_lex.specs.Cuts.{CutsToken, IsLongestAt, HasNoSymbol}
+use Rattle.sql_lex.specs.work.Cuts.{CutsToken, IsLongestAt, HasNoSymbol}
 use Rattle.sql_lex.proofs.RunLaws.{run_passes, run_stops, run_is}
 use Rattle.sql_lex.proofs.KindLaws.{kind_of, kind_is, begins_is_in, digit_apart}
 use Rattle.sql_lex.proofs.QuoteLaws.{past_quote, past_quote-spelled, past_quote-sound}

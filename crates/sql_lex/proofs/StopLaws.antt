@@ -10,8 +10,8 @@ use Rattle.sql_lex.specs.declared.tokens.Kind.TheVariants.{Word, Number, Quoted,
 use Rattle.sql_lex.specs.Letters.{begins_word, is_in_word, is_quote, goes_on_number, IsNotNext}
 use Rattle.sql_lex.specs.Blanks.{HasNoBlank, comment}
 use Rattle.sql_lex.specs.Forms.{IsNumber, HasNoToken, symbols, quoted}
-use Rattle.sql_lex.specs.Cuts.{CutsToken, IsNotClosed, longest_of}
-use Rattle.sql_lex.specs.Stops.{IsOpenQuote, IsSpoiltNumber, IsNoTokenHere}
+use Rattle.sql_lex.specs.work.Cuts.{CutsToken, IsNotClosed, longest_of}
+use Rattle.sql_lex.specs.work.Stops.{IsOpenQuote, IsSpoiltNumber, IsNoTokenHere}
 use Rattle.sql_lex.proofs.RunLaws.{run_is, run_passes, same_split}
 use Rattle.sql_lex.proofs.KindLaws.{kind_of, digit_apart, symbol_kind}
 use Rattle.sql_lex.proofs.SymbolLaws.{greatest, longest_at, starts-from}

@@ -7,7 +7,7 @@ use Rattle.std.proofs.lemmas.Bool.{cases_lt}
 use Rattle.std.proofs.lemmas.Bool.Decides.{Decides-eqb}
 use Rattle.std.proofs.lemmas.List.{take-append-drop, append_cancel_right, length-append}
 use Rattle.sql_lex.specs.Forms.{symbols}
-use Rattle.sql_lex.specs.Cuts.{IsLongestAt, HasNoSymbol, longest_of}
+use Rattle.sql_lex.specs.work.Cuts.{IsLongestAt, HasNoSymbol, longest_of}
 use Rattle.sql_lex.proofs.KindLaws.{symbol_kind}
 
 pub starts-true : (text s : List ℕ) → starts_with nat_eq text s ≡ true → text ≡ s ++ drop (length s) text

@@ -7,7 +7,7 @@ use Rattle.sql_lex.specs.declared.tokens.Kind.TheVariants.{Word, Number, Quoted,
 use Rattle.sql_lex.specs.declared.tokens.Token.{Token}
 use Rattle.sql_lex.specs.Blanks.{IsBlank, PassesBlanks, none, more}
 use Rattle.sql_lex.specs.Forms.{IsToken}
-use Rattle.sql_lex.specs.Cuts.{CutsBlank}
+use Rattle.sql_lex.specs.work.Cuts.{CutsBlank}
 use Rattle.sql_lex.specs.Words.{IsNext, is_last, AreWords, IsWordFault}
 use Rattle.sql_lex.proofs.KindLaws.{symbol_kind}
 

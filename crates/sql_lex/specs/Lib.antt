@@ -2,6 +2,5 @@ pub mod Letters
 pub mod Blanks
 pub mod Forms
 pub mod Words
-pub mod Cuts
-pub mod Stops
 pub mod Ends
+pub mod work

@@ -1,8 +1,5 @@
 -- The words of a statement and their first fault (PostgreSQL manual, chapter Lexical Structure).
 use Rattle.std.specs.Prelude.{◌≡◌, ◌≤◌, ℕ, Bool, true, false, ◌==◌, MatchBool, List, [], ◌∷◌, length, drop, slice_index, slice_range}
-use Rattle.pg_base.specs.Faults.{syntax_fault}
-use Rattle.pg_base.specs.declared.faults.Refusal.{Refusal}
-use Rattle.pg_base.specs.declared.faults.Refusal.TheVariants as refusal
 use Rattle.sql_lex.specs.declared.tokens.Kind.TheVariants.{Symbol, End}
 use Rattle.sql_lex.specs.declared.tokens.Kind.{Kind}
 use Rattle.sql_lex.specs.declared.tokens.Token.{Token}
@@ -51,8 +48,3 @@ StopsAt text from (t ∷ ts) at = IsNext text from t × (is_last text t ≡ fals
 -- the first place of the statement from `from` on at which no word stands
 abbrev pub IsWordFault : List ℕ → ℕ → ℕ → Type 0
 IsWordFault text from at = (before : List Token) × StopsAt text from before at
-
--- why the words of a statement are refused: memory runs out, or a syntax fault at their first fault
-abbrev pub IsWordRefusal : List ℕ → ℕ → Refusal → Type 0
-IsWordRefusal text from (refusal.Fault f) = (f ≡ syntax_fault f.at) × IsWordFault text from f.at
-IsWordRefusal text from refusal.Memory = Unit {0}

@@ -2,7 +2,7 @@
 
 ghost use Rattle.std.specs.Prelude.{◌≤◌, ◌^◌, length, MatchOption};
 ghost use Rattle.sql_lex.specs.Blanks.{HasNoBlank};
-ghost use Rattle.sql_lex.specs.Cuts.{CutsBlank, CutsComment, IsNotClosed};
+ghost use Rattle.sql_lex.specs.work.Cuts.{CutsBlank, CutsComment, IsNotClosed};
 
 use crate::letters::{is_space, line_len, rest, stands_at};
 

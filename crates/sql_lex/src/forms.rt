@@ -5,7 +5,7 @@ ghost use Rattle.std.specs.Char.{is_ascii_digit};
 ghost use Rattle.std.specs.List.{starts_with};
 ghost use Rattle.sql_lex.specs.Letters.{begins_word, is_quote};
 ghost use Rattle.sql_lex.specs.Forms.{HasNoToken, symbols};
-ghost use Rattle.sql_lex.specs.Cuts.{CutsToken, IsLongestAt, HasNoSymbol, longest_of};
+ghost use Rattle.sql_lex.specs.work.Cuts.{CutsToken, IsLongestAt, HasNoSymbol, longest_of};
 
 use crate::letters::{begins_word, digits_len, rest, stands_at, word_len};
 use crate::tokens::Kind;

@@ -3,9 +3,9 @@
 ghost use Rattle.std.specs.Prelude.{◌≡◌, ◌↔◌, ℕ, List, ◌∷◌};
 ghost use Rattle.sql_lex.specs.declared.tokens.Token.{Token};
 ghost use Rattle.sql_lex.specs.Blanks.{HasNoBlank};
-ghost use Rattle.sql_lex.specs.Cuts.{IsNotClosed};
+ghost use Rattle.sql_lex.specs.work.Cuts.{IsNotClosed};
 ghost use Rattle.sql_lex.specs.Forms.{HasNoToken};
-ghost use Rattle.sql_lex.specs.Stops.{IsNoTokenHere};
+ghost use Rattle.sql_lex.specs.work.Stops.{IsNoTokenHere};
 ghost use Rattle.sql_lex.specs.Words.{AreWords, IsWordFault};
 
 /// A text has one reading from each place on: one list of words or one first fault, and not both.

@@ -1,7 +1,8 @@
 //! The words of a statement, cut from its text.
 
 ghost use Rattle.std.specs.Prelude.{◌≡◌, ◌≤◌, ◌^◌, ◌==◌, length, slice_index, IfOk, IfErr, MatchResult};
-ghost use Rattle.sql_lex.specs.Words.{AreWords, EndsBlanks, IsNext, IsWordRefusal, IsStuck, is_last};
+ghost use Rattle.sql_lex.specs.Words.{AreWords, EndsBlanks, IsNext, IsStuck, is_last};
+ghost use Rattle.sql_lex.specs.work.Words.{IsWordRefusal};
 ghost use Rattle.pg_base.specs.Faults.{syntax_fault};
 
 use crate::blanks::blank_len;

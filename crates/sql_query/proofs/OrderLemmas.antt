@@ -9,7 +9,8 @@ use Rattle.eq_classes.specs.Holding.{IsClassTable}
 use Rattle.eq_classes.proofs.HoldLemmas.{map_in}
 use Rattle.eq_classes.proofs.ListLemmas.{all_at, all_from, contains_from_in, found_in, found_passes}
 use Rattle.sql_query.specs.Queries.{Query, in_order_of}
-use Rattle.sql_query.specs.WellBound.{IsDirected, IsDirectedBy, IsWellBound, given_of, ordered_columns}
+use Rattle.sql_query.specs.WellBound.{IsDirected, IsWellBound, given_of, ordered_columns}
+use Rattle.sql_query.specs.work.WellBound.{IsDirectedBy}
 
 -- where classes are made of the order itself, its columns stand among those of its items
 pub own_stands : (order : List OrderItem) → All (λ i. Contains (ordered_columns order) i.col) order

@@ -11,7 +11,7 @@ use Rattle.catalog.specs.Range.{Range, IsRange, table_of, type_in}
 use Rattle.eq_classes.specs.declared.order.OrderItem.{OrderItem}
 use Rattle.eq_classes.specs.Classes.{Class, Premises, conjuncts_in, direction_by, orders_by}
 use Rattle.eq_classes.specs.Clauses.{has_constant}
-use Rattle.eq_classes.specs.Holding.{HasClass, IsClassTable}
+use Rattle.eq_classes.specs.Holding.{IsClassTable}
 use Rattle.sql_query.specs.Queries.{Query}
 
 -- a column of a relation of the query: one of that relation's table
@@ -44,11 +44,6 @@ IsDirected c q k = has_constant k ≡ false → (item : OrderItem) → find (ord
 pub record IsWithinLimits (es : List Cond) : Type 0 where
   pub conjuncts : length (conjuncts_in es) ≤ MOST_CONJUNCTS
   pub atoms : atom_count_of (conds_of es) ≤ MOST_ATOMS
-
--- an item has the direction of the class that it is by, where that has no constant
-abbrev pub IsDirectedBy : Contents → Query → OrderItem → Type 0
-IsDirectedBy c q item = (k : Class) → HasClass q.classes k → IsTrue (orders_by (type_in c q.range) k item) → has_constant k ≡ false →
-    direction_by (Some item) ≡ (k.descending, k.nulls_first)
 
 -- the query is one over the catalogue: it has a relation at least, its relations are tables there, each column that it names
 -- is one of a relation, it names every column of the select list, of ORDER BY and of its conditions, its conditions are

@@ -87,7 +87,7 @@ impl Drop for Grouped {
 
 impl Model for Grouped {
     ghost use Rattle.std.specs.Coded.{codes};
-    ghost use Rattle.pg_expr.specs.CondCode.{cond_code};
+    ghost use Rattle.pg_expr.specs.work.CondCode.{cond_code};
     ghost use Rattle.sql_query.specs.Grouped.{GroupedQuery};
 
     ghost Value = { GroupedQuery };

@@ -5,7 +5,8 @@ ghost use Rattle.catalog.specs.Contents.{Contents};
 ghost use Rattle.eq_classes.specs.Holding.{IsClassTable};
 ghost use Rattle.eq_classes.specs.declared.order.OrderItem.{OrderItem};
 ghost use Rattle.sql_query.specs.Queries.{Query, in_order_of};
-ghost use Rattle.sql_query.specs.WellBound.{IsColumnOf, IsDirected, IsDirectedBy, IsWellBound, given_of, ordered_columns};
+ghost use Rattle.sql_query.specs.WellBound.{IsColumnOf, IsDirected, IsWellBound, given_of, ordered_columns};
+ghost use Rattle.sql_query.specs.work.WellBound.{IsDirectedBy};
 
 /// Each column that a well bound query selects is one of its relations.
 pub fn selected_columns()

@@ -48,8 +48,8 @@ impl Drop for Prepared {
 impl Model for Prepared {
     ghost use Rattle.std.specs.Prelude.{map};
     ghost use Rattle.std.specs.Coded.{codes};
-    ghost use Rattle.pg_expr.specs.CondCode.{cond_code};
-    ghost use Rattle.pg_expr.specs.View.{cond};
+    ghost use Rattle.pg_expr.specs.work.CondCode.{cond_code};
+    ghost use Rattle.pg_expr.specs.work.View.{cond};
     ghost use Rattle.sql_query.specs.Queries.{Query};
 
     ghost Value = { Query };

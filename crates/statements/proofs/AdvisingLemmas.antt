@@ -9,15 +9,15 @@ use Rattle.sql_lex.specs.Ends.{end_of}
 use Rattle.sql_grammar.specs.Syntax.{advise as advise_tree}
 use Rattle.index_prices.specs.Replies.{HasNoAdviceFor, IsReplyTo}
 use Rattle.index_reader.specs.AdviseMeaning.{Asked}
-use Rattle.index_reader.specs.AdviseStatements.{IsAdviseMeaning, IsAdviseRefusal}
+use Rattle.index_reader.specs.work.AdviseStatements.{IsAdviseMeaning, IsAdviseRefusal}
 use Rattle.sql_query.specs.Queries.{Query}
 use Rattle.sql_query.specs.Worlds.{World}
 use Rattle.store.specs.Actions.{advise}
 use Rattle.statements.specs.declared.end.End.TheVariants as ends
 use Rattle.statements.specs.Accepted.{HaveClasses}
-use Rattle.statements.specs.Ending.{end_of_refusal}
+use Rattle.statements.specs.work.Ending.{end_of_refusal}
 use Rattle.statements.specs.Faults.{in_meaning, in_syntax, no_advice}
-use Rattle.statements.specs.Steps.{IsTelling, Refuses}
+use Rattle.statements.specs.work.Steps.{IsTelling, Refuses}
 use Rattle.statements.proofs.PlainLemmas.{plain-field}
 use Rattle.statements.proofs.PlainAdviceLemmas.{advice-fault-plain}
 

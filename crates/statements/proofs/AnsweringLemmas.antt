@@ -7,7 +7,7 @@ use Rattle.sql_lex.specs.declared.tokens.Token.{Token}
 use Rattle.sql_lex.specs.Ends.{end_of}
 use Rattle.sql_grammar.specs.Faults.{terminals}
 use Rattle.catalog.specs.Contents.{Contents}
-use Rattle.query_reader.specs.Select.{AreNoOther, is_explained}
+use Rattle.query_reader.specs.work.Select.{AreNoOther, is_explained}
 use Rattle.query_reader.specs.Wanted.{wanted_by}
 use Rattle.query_reader.specs.declared.wanted.Wanted.{Wanted}
 use Rattle.query_reader.specs.declared.wanted.Wanted.TheVariants as wanted
@@ -21,8 +21,9 @@ use Rattle.sql_query.specs.Worlds.{World}
 use Rattle.group_reply.specs.reply_stop_Stop.{Stop}
 use Rattle.group_reply.specs.reply_stop_Stop_TheVariants as stop
 use Rattle.group_reply.specs.reply_Effort.{exactly}
-use Rattle.group_reply.specs.reply_Measures.{IsMeasured}
-use Rattle.group_reply.specs.reply_Replies.{HasReplied, Leaves, Reply, Traces}
+use Rattle.group_reply.specs.reply_work_Measures.{IsMeasured}
+use Rattle.group_reply.specs.reply_Replies.{HasReplied, Reply, Traces}
+use Rattle.group_reply.specs.reply_work_Replies.{Leaves}
 use Rattle.group_reply.specs.reply_measuring_Measured.{Measured}
 use Rattle.group_reply.specs.explain_Texts.{explained_text}
 use Rattle.plan_tree.specs.Plans.{Plan}
@@ -30,14 +31,14 @@ use Rattle.group_reply.specs.reply_Putting.{HasWriteCause}
 use Rattle.statements.specs.declared.end.End.{End}
 use Rattle.statements.specs.declared.end.End.TheVariants as ends
 use Rattle.store.specs.Actions.{after}
-use Rattle.statements.specs.Ending.{end_of_refusal, end_of_stop}
+use Rattle.statements.specs.work.Ending.{end_of_refusal, end_of_stop}
 use Rattle.statements.specs.Accepted.{IsReadOver, asked_as}
-use Rattle.statements.specs.Askings.{IsTallied}
+use Rattle.statements.specs.work.Askings.{IsTallied}
 use Rattle.statements.specs.Faults.{IsFaultOver, no_plan}
-use Rattle.statements.specs.Questions.{HasNoneOf, asked_of, groups_asked}
+use Rattle.statements.specs.work.Questions.{HasNoneOf, asked_of, groups_asked}
 use Rattle.statements.specs.Replies.{IsReply}
 use Rattle.plan_reply.specs.Tabled.{IsTabledText}
-use Rattle.statements.specs.Steps.{IsAnsweredOver, IsTalliedOver, Refuses, StopsOver}
+use Rattle.statements.specs.work.Steps.{IsAnsweredOver, IsTalliedOver, Refuses, StopsOver}
 use Rattle.statements.proofs.PlainLemmas.{plain-field}
 use Rattle.statements.proofs.QueryLemmas.{Reads, query-fault, fault-plain}
 

@@ -21,7 +21,7 @@ use Rattle.plan_tree.specs.Bitmaps.{is_or}
 use Rattle.sql_query.specs.Queries.{Query}
 use Rattle.sql_query.specs.WellBound.{given_of}
 use Rattle.plan_reply.specs.certificate_laws_Arms.{HasArmsInOrs}
-use Rattle.expr_reader.specs.Parted.{HasParts, HaveParts, IsSome}
+use Rattle.expr_reader.specs.work.Parted.{HasParts, HaveParts, IsSome}
 use Rattle.query_reader.proofs.PartedLemmas.{conjuncts-parted, listed-parted}
 use Rattle.query_reader.proofs.PartedLemmas.{joined-parted}
 

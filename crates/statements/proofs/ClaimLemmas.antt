@@ -10,7 +10,7 @@ use Rattle.eq_classes.specs.Clauses.{ClassTable}
 use Rattle.eq_classes.specs.Holding.{IsClassTable}
 use Rattle.sql_lex.specs.declared.tokens.Token.{Token}
 use Rattle.sql_lex.specs.Ends.{end_of, token_at}
-use Rattle.expr_reader.specs.Reading.{Begins, BeginsNot}
+use Rattle.expr_reader.specs.work.Reading.{Begins, BeginsNot}
 use Rattle.sql_grammar.specs.CopyLine.{IsDataStart}
 use Rattle.sql_grammar.specs.FromParts.{groups_after}
 use Rattle.sql_grammar.specs.Reading.{terminal_of}
@@ -20,16 +20,18 @@ use Rattle.sql_grammar.specs.declared.class.Free.TheVariants.{Check as CheckWord
 use Rattle.sql_grammar.specs.declared.offered.TheConstants.{READS_CHECK, READS_PLAN}
 use Rattle.sql_grammar.specs.Syntax.{IsOffered, OrderBy, Select, select_from, semicolon, text_end, no_explain, explain, explain_table, unexplained, explained, ordered_select, index_on, no_limit, no_offset, window, Where, WindowedSelect, windowed_select, Statement, empty, create_table, create_index, query, copy, sizes, column_statistics, analyze, advise, advise_of, check, use_plan, grouped}
 use Rattle.sql_grammar.specs.Words.{words_of}
-use Rattle.sql_grammar.specs.Faults.{IsFirstFault, IsStatement, IsWhole, terminals}
+use Rattle.sql_grammar.specs.Faults.{IsFirstFault, IsStatement, terminals}
+use Rattle.sql_grammar.specs.work.Faults.{IsWhole}
 use Rattle.sql_grammar.specs.Spelled.{IsSpelled}
 use Rattle.ddl_reader.specs.Block.{HaveNoMark, IsBlockEnd, lines_of}
 use Rattle.expr_reader.specs.Conditions.{next as following}
 use Rattle.query_reader.specs.Binding.{Bound, bound_over, bound_part, conjuncts_written, limited, list_columns, past_limit, query_with}
 use Rattle.query_reader.specs.From.{Joined, nothing_joined, with_groups}
 use Rattle.query_reader.specs.Order.{order_items}
-use Rattle.query_reader.specs.Parts.{IsSelectAt}
+use Rattle.query_reader.specs.work.Parts.{IsSelectAt}
 use Rattle.query_reader.specs.Scope.{scope_of}
-use Rattle.query_reader.specs.Select.{IsBoundAs, words_before}
+use Rattle.query_reader.specs.Select.{words_before}
+use Rattle.query_reader.specs.work.Select.{IsBoundAs}
 use Rattle.query_reader.specs.Written.{item_of, items_of}
 use Rattle.query_reader.specs.declared.written.Item.{Item}
 use Rattle.query_reader.proofs.GrammarLemmas.{spelled-whole}
@@ -41,10 +43,10 @@ use Rattle.statements.specs.declared.claims.Given.{Given}
 use Rattle.statements.specs.declared.claims.Given.TheVariants.{Certificate, Plan}
 use Rattle.statements.specs.declared.end.End.TheVariants as ends
 use Rattle.statements.specs.Accepted.{Does, IsReadOver}
-use Rattle.statements.specs.Claims.{IsWholeFor, action_for, begins_for, words_for}
-use Rattle.statements.specs.Ending.{end_of_refusal}
+use Rattle.statements.specs.work.Claims.{IsWholeFor, action_for, begins_for, words_for}
+use Rattle.statements.specs.work.Ending.{end_of_refusal}
 use Rattle.statements.specs.Faults.{IsCheckFault, IsMeaningFault, endless_fault, in_line, in_meaning, in_select, in_syntax, without_end}
-use Rattle.statements.specs.Steps.{Refuses, begins_check, begins_use}
+use Rattle.statements.specs.work.Steps.{Refuses, begins_check, begins_use}
 use Rattle.statements.proofs.BindingLemmas.{part-plain}
 use Rattle.statements.proofs.PlaceLemmas.{check-end, use-end}
 use Rattle.statements.proofs.PlainLemmas.{IsPlain, first-plain, plain-field}

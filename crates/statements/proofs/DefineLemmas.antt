@@ -16,14 +16,14 @@ use Rattle.sql_grammar.specs.Faults.{terminals, bytes_of}
 use Rattle.sql_grammar.specs.CopyLine.{IsDataStart}
 use Rattle.catalog.specs.Contents.{Contents, IsTable, table_at}
 use Rattle.catalog.specs.Tables.{IsAcceptable, table_named}
-use Rattle.catalog.specs.Entries.{statistics}
+use Rattle.catalog.specs.work.Entries.{statistics}
 use Rattle.catalog.specs.Indexes.{type_at}
 use Rattle.catalog.specs.Statistics.{AreAllowed, is_count}
 use Rattle.catalog.specs.declared.statistics.ColumnStats.{ColumnStats}
 use Rattle.ddl_reader.specs.declared.ddl.Ddl.{Ddl}
 use Rattle.ddl_reader.specs.declared.ddl.Ddl.TheVariants.{Table, Rows, Column as Column', Copy, Analyze}
 use Rattle.ddl_reader.specs.declared.ddl.Read.{Read}
-use Rattle.ddl_reader.specs.Readings.{definition, reading}
+use Rattle.ddl_reader.specs.work.Readings.{definition, reading}
 use Rattle.ddl_reader.specs.Types.{type_named}
 use Rattle.ddl_reader.specs.Columns.{Written, defined_column, BoundColumn, bound_column, bound_by, bound_all, further}
 use Rattle.expr_reader.specs.Lists.{bound_each}
@@ -31,9 +31,10 @@ use Rattle.ddl_reader.specs.Statistics.{CommonWords, common_value, table_of_name
 use Rattle.expr_reader.specs.Literals.{typed_value}
 use Rattle.ddl_reader.specs.Tables.{table, sizes_for, statistics_for, data_for, analysis_of, Reading, table_reading, limited_columns, bound_table, data_for_named, data_after}
 use Rattle.pg_value.specs.Fields.{null_text}
-use Rattle.ddl_reader.specs.Soundness.{AreSoundSizes, AreSoundStatistics, IsSound, IsSoundTable}
+use Rattle.ddl_reader.specs.work.Soundness.{AreSoundSizes, AreSoundStatistics, IsSound, IsSoundTable}
 use Rattle.ddl_reader.specs.Block.{IsBlockEnd}
-use Rattle.ddl_reader.specs.Statements.{begins_ddl, Means, IsMeaning, IsDdlFault, IsDdlRefusal}
+use Rattle.ddl_reader.specs.Statements.{Means}
+use Rattle.ddl_reader.specs.work.Statements.{begins_ddl, IsMeaning, IsDdlFault, IsDdlRefusal}
 use Rattle.reply_text.specs.Tells.{IsFieldOf}
 use Rattle.heap.specs.Loading.{loaded, records_of}
 use Rattle.heap.specs.Stored.{Stored}
@@ -41,13 +42,13 @@ use Rattle.sql_query.specs.Worlds.{World, stored_at}
 use Rattle.statements.specs.declared.end.End.{End}
 use Rattle.statements.specs.declared.end.End.TheVariants as ends
 use Rattle.store.specs.Actions.{Action, after, make, size, describe, fill, gather}
-use Rattle.statements.specs.Ending.{end_of_refusal}
+use Rattle.statements.specs.work.Ending.{end_of_refusal}
 use Rattle.statements.specs.Faults.{IsRefused, IsMeaningFault, IsFaultOver, in_syntax, in_meaning}
 use Rattle.sql_lex.specs.Ends.{end_of}
 use Rattle.statements.specs.Accepted.{Carries, Does}
 use Rattle.store.specs.Kept.{load_looks}
 use Rattle.statements.specs.Replies.{IsReply, silent}
-use Rattle.statements.specs.Steps.{IsCarrying, IsDefined, Refuses, RefusesData, RefusesDefinition}
+use Rattle.statements.specs.work.Steps.{IsCarrying, IsDefined, Refuses, RefusesData, RefusesDefinition}
 use Rattle.statements.proofs.PlainLemmas.{IsPlain, column-name-plain, each-plain, next-plain, plain-field, table-name-plain, typed-plain}
 
 -- faults of words, of syntax and of names are in no record of data

@@ -4,12 +4,13 @@ use Rattle.catalog.specs.Contents.{Contents}
 use Rattle.sql_lex.specs.declared.tokens.Token.{Token}
 use Rattle.sql_query.specs.Worlds.{World}
 use Rattle.group_reader.specs.declared.selected.Selected.{Selected}
-use Rattle.group_reply.specs.reply_Replies.{HasReplied, Leaves, Traces}
+use Rattle.group_reply.specs.reply_Replies.{HasReplied, Traces}
+use Rattle.group_reply.specs.reply_work_Replies.{Leaves}
 use Rattle.group_reply.specs.reply_measuring_Measured.{Measured}
 use Rattle.group_reply.specs.reply_stop_Stop.{Stop}
 use Rattle.group_reply.specs.reply_stop_Stop_TheVariants as stop
-use Rattle.statements.specs.Askings.{IsTallied}
-use Rattle.statements.specs.Questions.{HasNoneOf, IsBoundTo, asked_of}
+use Rattle.statements.specs.work.Askings.{IsTallied}
+use Rattle.statements.specs.work.Questions.{HasNoneOf, IsBoundTo, asked_of}
 use Rattle.statements.specs.Replies.{IsReply}
 
 pub bound-as : (c : Contents) (s t : Selected) → s ≡ t → IsBoundTo c s → IsBoundTo c t

@@ -29,15 +29,15 @@ use Rattle.index_reader.specs.declared.names.NamedColumn.{NamedColumn}
 use Rattle.index_reader.specs.declared.methods.MethodRead.{MethodRead}
 use Rattle.index_reader.specs.Keys.{class_bound, class_has_method, class_known, key_bound, all_key_trees, method_bound, method_of_name, name_bound, include_names}
 use Rattle.index_reader.specs.Meaning.{IndexMeant, condition_bound, has_many_atoms, index_reading, limited_names, meaning_of_index, meaning_of_cand, name_tokens, within_limits}
-use Rattle.index_reader.specs.Statements.{IsIndexMeaning, IsCreateRefusal}
+use Rattle.index_reader.specs.work.Statements.{IsIndexMeaning, IsCreateRefusal}
 use Rattle.index_reader.specs.Visible.{Sight, visible_in, sight_type}
 use Rattle.sql_query.specs.Worlds.{World, stored_at}
 use Rattle.statements.specs.declared.end.End.{End}
 use Rattle.statements.specs.declared.end.End.TheVariants as ends
 use Rattle.store.specs.Actions.{after, build}
-use Rattle.statements.specs.Ending.{IsPlaceAmong, end_by, end_of_refusal}
+use Rattle.statements.specs.work.Ending.{IsPlaceAmong, end_by, end_of_refusal}
 use Rattle.statements.specs.Faults.{in_syntax, in_meaning, index_fault}
-use Rattle.statements.specs.Steps.{IsCarrying, IsDefined, Refuses}
+use Rattle.statements.specs.work.Steps.{IsCarrying, IsDefined, Refuses}
 use Rattle.statements.proofs.PlainLemmas.{IsPlain, column-name-plain, each-plain, expr-plain, known-plain, next-plain, plain-field, table-name-plain}
 
 -- the faults of names, classes and limits are in no record of data

@@ -12,9 +12,9 @@ use Rattle.sql_query.specs.Worlds.{World, stored_at}
 use Rattle.store.specs.Kept.{load_looks}
 use Rattle.statements.specs.declared.end.End.{End}
 use Rattle.statements.specs.declared.end.End.TheVariants as ends
-use Rattle.statements.specs.Ending.{end_by}
+use Rattle.statements.specs.work.Ending.{end_by}
 use Rattle.statements.specs.Faults.{rows_fault}
-use Rattle.statements.specs.Steps.{AreLoaded, RefusesData, RefusesDefinition}
+use Rattle.statements.specs.work.Steps.{AreLoaded, RefusesData, RefusesDefinition}
 
 pub refuses-data : (end : End) (w : World) (text : List ℕ) (t : TableNo) (start looked looked' : ℕ) → RefusesDefinition end w text (data_for t start) [] → ((f : Fault) → end ≡ ends.Fault f → looked' ≡ looked) →
     (looked' ≡ looked) ⊎ AreLoaded w text t start looked looked' → RefusesData end w text t start looked looked'

@@ -11,13 +11,13 @@ use Rattle.sql_grammar.specs.Terminals.{Ident, token_of}
 use Rattle.expr_reader.specs.Conditions.{next as following}
 use Rattle.analyze.specs.Analysis.{table_statistics}
 use Rattle.analyze.proofs.LawLemmas.{table-allowed}
-use Rattle.catalog.specs.Analysed.{IsAllowedTable}
+use Rattle.catalog.specs.work.Analysed.{IsAllowedTable}
 use Rattle.catalog.specs.Contents.{Contents, IsTable}
 use Rattle.catalog.specs.Tables.{table_named}
 use Rattle.ddl_reader.specs.Statistics.{analysis_reading, known}
 use Rattle.ddl_reader.specs.Tables.{Reading}
 use Rattle.sql_query.specs.Worlds.{World}
-use Rattle.store.specs.Kept.{IsStoreOf, Kept, stored_of}
+use Rattle.store.specs.work.Kept.{IsStoreOf, Kept, stored_of}
 use Rattle.store.proofs.StoreLemmas.{holds}
 use Rattle.statements.specs.Faults.{IsMeaningFault, IsRefused}
 

@@ -21,7 +21,7 @@ use Rattle.sql_lex.specs.Forms.{IsToken, symbols}
 use Rattle.sql_lex.specs.Words.{AreWords, IsNext, is_last}
 use Rattle.sql_grammar.specs.Terminals.{Ident, Said, Terminal, t_semicolon, token_of}
 use Rattle.sql_grammar.specs.Syntax.{CopyWords, IsOffered, OrderBy, Select, WindowedSelect, windowed_select, no_limit, no_offset, window, Lit, Statement, empty, create_table, create_index, query, copy, sizes, column_statistics, analyze, advise, check, use_plan, grouped}
-use Rattle.sql_grammar.specs.Unique.{token_in}
+use Rattle.sql_grammar.specs.work.Unique.{token_in}
 use Rattle.sql_grammar.specs.Words.{words_of, words_of_order, words_of_select, words_of_windowed}
 use Rattle.sql_grammar.specs.declared.offered.TheConstants.{READS_CHECK, READS_PLAN}
 use Rattle.sql_grammar.specs.Faults.{bytes_of, fault_at, terminals}

@@ -9,25 +9,30 @@ use Rattle.pg_base.specs.declared.faults.Refusal.TheVariants as refusal
 use Rattle.sql_lex.specs.declared.tokens.Token.{Token}
 use Rattle.sql_lex.specs.Words.{AreWords}
 use Rattle.sql_lex.specs.Ends.{end_of, token_at}
-use Rattle.sql_grammar.specs.Terminals.{Terminal, class_of}
-use Rattle.sql_grammar.specs.Table.{is_ending}
-use Rattle.sql_grammar.specs.Reading.{is_end, ends_once, terminal_of}
+use Rattle.sql_grammar.specs.Terminals.{Terminal}
+use Rattle.sql_grammar.specs.work.Terminals.{class_of}
+use Rattle.sql_grammar.specs.work.Table.{is_ending}
+use Rattle.sql_grammar.specs.Reading.{terminal_of}
+use Rattle.sql_grammar.specs.work.Reading.{is_end, ends_once}
 use Rattle.sql_grammar.specs.declared.offered.TheConstants.{READS_GROUPS}
 use Rattle.sql_grammar.specs.Syntax.{GroupedSelect, IsOffered, MaybeExplain, unexplained, explained, OrderedSelect, ordered_select, no_explain, explain, explain_table, select_from, index_on, semicolon, text_end, Statement, empty, create_table, create_index, query, copy, sizes, column_statistics, analyze, advise, advise_of, check, use_plan, grouped as grouped_tree}
 use Rattle.sql_grammar.specs.Words.{words_of}
-use Rattle.sql_grammar.specs.Faults.{IsFirstFault, IsStatement, IsWhole, terminals}
+use Rattle.sql_grammar.specs.Faults.{IsFirstFault, IsStatement, terminals}
+use Rattle.sql_grammar.specs.work.Faults.{IsWhole}
 use Rattle.sql_grammar.specs.Spelled.{IsSpelled}
 use Rattle.sql_grammar.proofs.StatementWords.{words-are-tokens}
-use Rattle.index_reader.specs.AdviseStatements.{begins_advise}
-use Rattle.ddl_reader.specs.Statements.{begins_ddl, begins_index}
+use Rattle.index_reader.specs.work.AdviseStatements.{begins_advise}
+use Rattle.ddl_reader.specs.work.Statements.{begins_ddl, begins_index}
 use Rattle.catalog.specs.Contents.{Contents}
 use Rattle.eq_classes.specs.Holding.{IsClassTable}
-use Rattle.query_reader.specs.Select.{AreGrouped, AreNoOther, AreSelect, IsBoundAs, is_explained, is_query, words_before}
-use Rattle.query_reader.specs.Wanted.{wanted_by, words_by}
+use Rattle.query_reader.specs.Select.{words_before}
+use Rattle.query_reader.specs.work.Select.{AreGrouped, AreNoOther, AreSelect, IsBoundAs, is_explained, is_query}
+use Rattle.query_reader.specs.Wanted.{wanted_by}
+use Rattle.query_reader.specs.work.Wanted.{words_by}
 use Rattle.query_reader.specs.Binding.{Bound, bound, query_with}
 use Rattle.group_query.specs.Grouping.{given_groups}
 use Rattle.group_reader.specs.Binding.{BoundGroups, bound_groups, grouped_with}
-use Rattle.group_reader.specs.Selected.{IsAnyGrammatical, IsReadGrouped, IsReadPlain, IsWellSelected}
+use Rattle.group_reader.specs.work.Selected.{IsAnyGrammatical, IsReadGrouped, IsReadPlain, IsWellSelected}
 use Rattle.group_reader.specs.declared.selected.Selected.{Selected}
 use Rattle.group_reader.specs.declared.selected.Selected.TheVariants.{Plain, Grouped}
 use Rattle.group_reply.specs.group_explain_Plans.{HasNoGroupPlan}
@@ -38,8 +43,8 @@ use Rattle.sql_query.specs.Worlds.{World}
 use Rattle.store.specs.Actions.{answer_groups, explain_groups}
 use Rattle.statements.specs.Accepted.{IsReadOver, action_asked, asked_of_groups}
 use Rattle.statements.specs.Faults.{IsFaultOver, in_syntax, in_meaning, no_plan}
-use Rattle.statements.specs.Questions.{HasNoneOf, IsBoundTo, asked_of, groups_asked}
-use Rattle.statements.specs.Steps.{begins_check, begins_use}
+use Rattle.statements.specs.work.Questions.{HasNoneOf, IsBoundTo, asked_of, groups_asked}
+use Rattle.statements.specs.work.Steps.{begins_check, begins_use}
 use Rattle.statements.proofs.ArmsLemmas.{has-arms}
 use Rattle.statements.proofs.BindingLemmas.{bound-plain}
 use Rattle.statements.proofs.GroupPlainLemmas.{groups-bound-plain}

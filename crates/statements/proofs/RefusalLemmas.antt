@@ -12,9 +12,9 @@ use Rattle.catalog.specs.Tables.{IsRefusal, IsSizeRefusal, IsStatisticsRefusal}
 use Rattle.ddl_reader.specs.Tables.{table, sizes_for, statistics_for}
 use Rattle.sql_query.specs.Worlds.{World}
 use Rattle.statements.specs.declared.end.End.{End}
-use Rattle.statements.specs.Ending.{IsCauseFor, IsNumberAmong, end_by}
+use Rattle.statements.specs.work.Ending.{IsCauseFor, IsNumberAmong, end_by}
 use Rattle.statements.specs.Faults.{number_fault, table_fault, word_ends}
-use Rattle.statements.specs.Steps.{RefusesDefinition}
+use Rattle.statements.specs.work.Steps.{RefusesDefinition}
 
 module _ (w : World) (name : List ℕ) (names : List (List ℕ)) (columns : List Column) (at : List ℕ) where
   abbrev words : List ℕ

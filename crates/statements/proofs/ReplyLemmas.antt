@@ -12,10 +12,11 @@ use Rattle.query_reader.specs.declared.wanted.Wanted.TheVariants as wanted
 use Rattle.group_reply.specs.reply_stop_Stop.{Stop}
 use Rattle.group_reply.specs.reply_stop_Stop_TheVariants.{NoPlan, Write, Memory}
 use Rattle.group_reply.specs.reply_Effort.{HasRisen, Rise, exactly}
-use Rattle.group_reply.specs.reply_Replies.{HasBegun, HasReplied, IsAnswerTo, IsExplanationOf, Leaves, Reply, Traces, traces}
+use Rattle.group_reply.specs.reply_Replies.{HasBegun, HasReplied, IsAnswerTo, IsExplanationOf, Reply, Traces, traces}
+use Rattle.group_reply.specs.reply_work_Replies.{Leaves}
 use Rattle.plan_reply.specs.Tabled.{IsTableOf}
 use Rattle.statements.specs.Accepted.{asked_as}
-use Rattle.statements.specs.Questions.{groups_asked}
+use Rattle.statements.specs.work.Questions.{groups_asked}
 use Rattle.statements.specs.Replies.{IsReply}
 
 -- a reply with nothing fetched and nothing looked at, whatever the counters stand at

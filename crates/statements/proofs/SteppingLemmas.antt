@@ -3,9 +3,11 @@ use Rattle.std.proofs.Common.{◌≡◌, ℕ, ◌^◌, ◌<◌, ◌≤◌, inl, 
 use Rattle.std.proofs.lemmas.List.Elements.{All-cons, All-nil}
 use Rattle.sql_lex.specs.declared.tokens.Token.{Token}
 use Rattle.sql_lex.specs.Words.{AreWords}
-use Rattle.sql_grammar.specs.Terminals.{Terminal, t_key, t_mark, t_name, t_number, t_quoted, t_operator, t_semicolon, t_end, class_of}
-use Rattle.sql_grammar.specs.Table.{is_ending}
-use Rattle.sql_grammar.specs.Reading.{terminal_of, ends_once, is_end}
+use Rattle.sql_grammar.specs.Terminals.{Terminal, t_key, t_mark, t_name, t_number, t_quoted, t_operator, t_semicolon, t_end}
+use Rattle.sql_grammar.specs.work.Terminals.{class_of}
+use Rattle.sql_grammar.specs.work.Table.{is_ending}
+use Rattle.sql_grammar.specs.Reading.{terminal_of}
+use Rattle.sql_grammar.specs.work.Reading.{ends_once, is_end}
 use Rattle.sql_grammar.specs.Syntax.{empty, semicolon, text_end}
 use Rattle.sql_grammar.specs.Faults.{limit_of}
 use Rattle.sql_grammar.proofs.StatementWords.{words-are-tokens}
@@ -13,7 +15,7 @@ use Rattle.group_reply.specs.reply_Effort.{HasRisen, exactly}
 use Rattle.group_reply.specs.reply_Replies.{Traces, traces as traces_of}
 use Rattle.catalog.specs.Contents.{Contents}
 use Rattle.sql_query.specs.Worlds.{World, world}
-use Rattle.store.specs.Kept.{Kept}
+use Rattle.store.specs.work.Kept.{Kept}
 use Rattle.statements.specs.declared.end.End.{End}
 use Rattle.statements.specs.declared.end.End.TheVariants as ends
 use Rattle.store.specs.Actions.{idle}
@@ -23,7 +25,8 @@ use Rattle.statements.proofs.PlaceLemmas.{EndsBehind, read-behind}
 use Rattle.statements.specs.Faults.{after_words}
 use Rattle.statements.specs.Replies.{silent}
 use Rattle.pg_base.proofs.OptionLemmas.{appends-none}
-use Rattle.statements.specs.Steps.{Advances, IsBegun, Stops, IsDefined, Refuses, IsAnsweredOver, IsBegunOver, StopsOver}
+use Rattle.statements.specs.Steps.{Advances, IsBegun, Stops}
+use Rattle.statements.specs.work.Steps.{IsDefined, Refuses, IsAnsweredOver, IsBegunOver, StopsOver}
 
 -- what is kept that was not changed
 pub same-world : (c c' : Contents) (k k' : Kept) (w : World) → c' ≡ c → k' ≡ k → world c k.stored ≡ w → world c' k'.stored ≡ w

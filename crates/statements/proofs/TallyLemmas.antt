@@ -14,10 +14,11 @@ use Rattle.sql_query.specs.Worlds.{World}
 use Rattle.statements.specs.declared.end.End.{End}
 use Rattle.statements.specs.declared.end.End.TheVariants as ends
 use Rattle.statements.specs.declared.replying.Tallied.{Tallied}
-use Rattle.statements.specs.Askings.{IsMeasuredOf, asked_in}
+use Rattle.statements.specs.Askings.{asked_in}
+use Rattle.statements.specs.work.Askings.{IsMeasuredOf}
 use Rattle.statements.specs.Faults.{after_words}
 use Rattle.statements.specs.Replies.{IsReply, silent}
-use Rattle.statements.specs.Steps.{IsDefined, IsTalliedOver, Refuses, StopsTally, Tallies}
+use Rattle.statements.specs.work.Steps.{IsDefined, IsTalliedOver, Refuses, StopsTally, Tallies}
 use Rattle.statements.proofs.PlaceLemmas.{read-behind}
 
 -- an answer ends with a line

@@ -9,9 +9,9 @@ use Rattle.group_reply.specs.reply_Replies.{traces}
 use Rattle.sql_query.specs.Worlds.{World}
 use Rattle.statements.specs.declared.end.End.{End}
 use Rattle.statements.specs.declared.end.End.TheVariants as ends
-use Rattle.statements.specs.Askings.{IsMeasuredOf}
-use Rattle.statements.specs.Replies.{told}
-use Rattle.statements.specs.Steps.{IsAnsweredOver, IsTalliedOver, IsTelling, Refuses, StopsOver}
+use Rattle.statements.specs.work.Askings.{IsMeasuredOf}
+use Rattle.statements.specs.work.Replies.{told}
+use Rattle.statements.specs.work.Steps.{IsAnsweredOver, IsTalliedOver, IsTelling, Refuses, StopsOver}
 
 module _ (w : World) (text : List ℕ) (tokens : List Token) where
   -- what a `?` hands on

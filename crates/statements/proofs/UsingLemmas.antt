@@ -12,8 +12,8 @@ use Rattle.store.specs.Actions.{follow}
 use Rattle.statements.specs.declared.end.End.{End}
 use Rattle.statements.specs.declared.end.End.TheVariants as ends
 use Rattle.statements.specs.Accepted.{IsReadOver}
-use Rattle.statements.specs.Ending.{end_of_broken}
-use Rattle.statements.specs.Steps.{IsAnsweredOver, IsTalliedOver, StopsOver}
+use Rattle.statements.specs.work.Ending.{end_of_broken}
+use Rattle.statements.specs.work.Steps.{IsAnsweredOver, IsTalliedOver, StopsOver}
 use Rattle.statements.proofs.AnsweringLemmas.{ended}
 
 module _ (w : World) (text : List ℕ) (tokens : List Token) (q : Query) (block : List ℕ) (next : ℕ) (read : IsReadOver w text tokens (follow q block) next) where

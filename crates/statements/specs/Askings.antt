@@ -2,12 +2,8 @@
 use Rattle.std.specs.Prelude.{List, [], ◌∷◌, Option, Some, None}
 use Rattle.std.specs.List.{cons_option}
 use Rattle.store.specs.Actions.{Action, after, answer}
-use Rattle.group_reply.specs.reply_Measures.{IsMeasured}
-use Rattle.group_reply.specs.reply_Replies.{Reply}
-use Rattle.group_reply.specs.reply_measuring_Measured.{Measured}
 use Rattle.sql_query.specs.Queries.{Query}
 use Rattle.sql_query.specs.Worlds.{World}
-use Rattle.statements.specs.Replies.{IsReply}
 use Rattle.statements.specs.Scripts.{Worked}
 
 -- a query, and the world in which it is asked
@@ -24,15 +20,3 @@ asked_in w _ = None
 abbrev pub askings : World → List Worked → List Asking
 askings w [] = []
 askings w (s ∷ ss) = cons_option (asked_in w s.action) (askings (after w s.action) ss)
-
--- the rows and the least price of a query that is asked were measured, and nothing where none is
-abbrev pub IsMeasuredOf : Option Asking → Option Measured → Type 0
-IsMeasuredOf None None = Unit {0}
-IsMeasuredOf (Some a) (Some m) = IsMeasured a.world a.query m.rows m.cost
-IsMeasuredOf _ _ = ⊥
-
--- a statement has a reply, and what it asks was measured
-pub record IsTallied (w : World) (action : Action) (m : Option Measured) : Type 0 where
-  pub reply : Reply
-  pub replies : IsReply w action reply
-  pub measured : IsMeasuredOf (asked_in w action) m

@@ -1,5 +1,5 @@
 -- What an accepted statement prints, and what that costs. Own.
-use Rattle.std.specs.Prelude.{ℕ, ◌≡◌, List, [], length}
+use Rattle.std.specs.Prelude.{ℕ, ◌≡◌, [], length}
 use Rattle.sql_query.specs.Worlds.{World, stored_at}
 use Rattle.index_prices.specs.Replies.{IsReplyTo}
 use Rattle.group_reply.specs.reply_Effort.{exactly}
@@ -15,10 +15,6 @@ use Rattle.group_reply.specs.Replies.{IsGroupedAnswerTo}
 -- the reply with nothing printed and nothing fetched, and a number of looks
 abbrev pub silent : ℕ → Reply
 silent looks = record { bytes = []; fetched = exactly 0; looked = looks }
-
--- the reply with some bytes printed, nothing fetched and nothing looked at
-abbrev pub told : List ℕ → Reply
-told bytes = record { bytes = bytes; fetched = exactly 0; looked = 0 }
 
 -- an accepted statement's reply: SELECT prints the answer by a best plan, its EXPLAIN that plan alone, and its EXPLAIN (TABLE)
 -- that plan with a table of it. ADVISE prints the advice, and CHECK a line that tells whether its lines are a certificate of

@@ -6,11 +6,11 @@ ghost use Rattle.pg_base.specs.declared.limits.TheConstants.{MOST_SCRIPT_BYTES};
 ghost use Rattle.sql_lex.specs.Ends.{end_of};
 ghost use Rattle.sql_lex.specs.Words.{AreWords};
 ghost use Rattle.sql_grammar.specs.Faults.{terminals};
-ghost use Rattle.index_reader.specs.AdviseStatements.{begins_advise};
+ghost use Rattle.index_reader.specs.work.AdviseStatements.{begins_advise};
 ghost use Rattle.sql_query.specs.Worlds.{world};
 ghost use Rattle.group_reply.specs.reply_Putting.{HasWriteCause};
 ghost use Rattle.group_reply.specs.reply_Replies.{traces};
-ghost use Rattle.statements.specs.Steps.{IsAnsweredOver, IsTelling, Refuses, StopsOver};
+ghost use Rattle.statements.specs.work.Steps.{IsAnsweredOver, IsTelling, Refuses, StopsOver};
 
 use crate::end::End;
 use crate::query::token_at;

@@ -4,8 +4,8 @@ ghost use Rattle.std.specs.Prelude.{◌≡◌, ◌≤◌, ℕ, IfErr, IfOk, Matc
 ghost use Rattle.pg_base.specs.declared.limits.TheConstants.{MOST_SCRIPT_BYTES};
 ghost use Rattle.sql_lex.specs.Words.{AreWords};
 ghost use Rattle.sql_query.specs.Worlds.{world};
-ghost use Rattle.store.specs.Kept.{IsStoreOf};
-ghost use Rattle.statements.specs.Steps.{AreNoDefinition, IsDefined, Refuses};
+ghost use Rattle.store.specs.work.Kept.{IsStoreOf};
+ghost use Rattle.statements.specs.work.Steps.{AreNoDefinition, IsDefined, Refuses};
 
 use crate::define::define;
 use crate::end::End;

@@ -8,7 +8,7 @@ ghost use Rattle.heap.specs.Stored.{Stored};
 ghost use Rattle.sql_query.specs.Worlds.{world};
 ghost use Rattle.group_reply.specs.reply_Putting.{HasWriteCause};
 ghost use Rattle.group_reply.specs.reply_Replies.{traces};
-ghost use Rattle.statements.specs.Steps.{IsAnsweredOver, IsTelling, Refuses, StopsOver, begins_check};
+ghost use Rattle.statements.specs.work.Steps.{IsAnsweredOver, IsTelling, Refuses, StopsOver, begins_check};
 
 use crate::claims::{Claim, Given, read_claim};
 use crate::end::End;

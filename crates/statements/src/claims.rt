@@ -9,8 +9,8 @@ ghost use Rattle.sql_query.specs.WellBound.{IsWellBound};
 ghost use Rattle.sql_query.specs.Worlds.{world};
 ghost use Rattle.plan_reply.specs.certificate_laws_Arms.{HasArmsInOrs};
 ghost use Rattle.statements.specs.Accepted.{IsReadOver};
-ghost use Rattle.statements.specs.Claims.{IsWholeFor, action_for, begins_for, words_for};
-ghost use Rattle.statements.specs.Steps.{Refuses, begins_check, begins_use};
+ghost use Rattle.statements.specs.work.Claims.{IsWholeFor, action_for, begins_for, words_for};
+ghost use Rattle.statements.specs.work.Steps.{Refuses, begins_check, begins_use};
 
 use crate::end::End;
 use crate::faults::endless;

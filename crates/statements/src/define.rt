@@ -5,19 +5,21 @@ ghost use Rattle.pg_base.specs.declared.limits.TheConstants.{MOST_SCRIPT_BYTES};
 ghost use Rattle.sql_lex.specs.Words.{AreWords};
 ghost use Rattle.sql_grammar.specs.Faults.{terminals};
 ghost use Rattle.catalog.specs.Contents.{IsColumn, IsTable, table_at};
-ghost use Rattle.catalog.specs.Entries.{statistics};
+ghost use Rattle.catalog.specs.work.Entries.{statistics};
 ghost use Rattle.catalog.specs.Indexes.{type_at};
 ghost use Rattle.catalog.specs.Statistics.{AreAllowed, AreValuesOf, is_count};
 ghost use Rattle.pg_base.specs.Names.{IsName};
 ghost use Rattle.catalog.specs.Tables.{IsAcceptable};
 ghost use Rattle.ddl_reader.specs.Block.{IsBlockEnd};
-ghost use Rattle.ddl_reader.specs.Statements.{begins_ddl};
+ghost use Rattle.ddl_reader.specs.work.Statements.{begins_ddl};
 ghost use Rattle.ddl_reader.specs.Tables.{sizes_for, statistics_for, table as table_of};
 ghost use Rattle.heap.specs.Stored.{Stored};
 ghost use Rattle.sql_query.specs.Worlds.{world};
 ghost use Rattle.store.specs.Actions as actions;
-ghost use Rattle.store.specs.Kept.{IsStoreOf, Kept, load_looks, loaded_block, stored_of};
-ghost use Rattle.statements.specs.Steps.{IsDefined, Refuses, RefusesData, RefusesDefinition};
+ghost use Rattle.store.specs.work.Actions as actions_work;
+ghost use Rattle.store.specs.Kept.{load_looks};
+ghost use Rattle.store.specs.work.Kept.{IsStoreOf, Kept, loaded_block, stored_of};
+ghost use Rattle.statements.specs.work.Steps.{IsDefined, Refuses, RefusesData, RefusesDefinition};
 
 use crate::end::End;
 use crate::faults::{endless, refused_data, refused_statistics, refused_table, word_ends};
@@ -107,7 +109,7 @@ fn table<C: Counters>(
     requires within { All (λ a. a ≤ 2 ^ 31) at.now }
     ensures accepted { OnOk result (IsAcceptable catalog.old asked.name asked.names.items) }
     ensures made { OnOk result
-        (actions.IsWorldAfter (actions.make asked.name asked.names.items asked.columns)
+        (actions_work.IsWorldAfter (actions.make asked.name asked.names.items asked.columns)
         catalog.old store.old catalog.new store.new) }
     ensures refused { IfErr result (λ e.
         RefusesDefinition e (world catalog.old store.old.stored) []
@@ -193,7 +195,7 @@ fn data<C: Counters>(
     ensures loaded { IfOk result (λ next. (end : ℕ) × (s : Stored) ×
         IsBlockEnd text.now start end next ×
         (loaded_block store.old table (slice_range text.now start end) ≡ Ok s) ×
-        actions.IsWorldAfter (actions.fill table s) catalog.old store.old catalog.new store.new ×
+        actions_work.IsWorldAfter (actions.fill table s) catalog.old store.old catalog.new store.new ×
         (reads.new ≡ reads.old + load_looks catalog.old table (stored_of store.old table) s)) }
     ensures refused { IfErr result (λ e.
         RefusesData e (world catalog.old store.old.stored) text.now table start

@@ -26,7 +26,7 @@ impl From<std::alloc::AllocError> for End {
 }
 
 impl From<Refusal> for End {
-    ghost use Rattle.statements.specs.Ending.{end_of_refusal};
+    ghost use Rattle.statements.specs.work.Ending.{end_of_refusal};
 
     ghost from_gives = { λ refusal end. end ≡ end_of_refusal refusal };
 

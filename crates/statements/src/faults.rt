@@ -3,7 +3,7 @@
 ghost use Rattle.std.specs.Prelude.{◌≡◌, ◌≤◌, ◌+◌, ◌^◌, ◌<◌, ◌∷◌, All, IfOk, length};
 ghost use Rattle.pg_base.specs.Names.{IsName};
 ghost use Rattle.index_reader.specs.Places.{end_of_word as end_of_word_at, word_fault};
-ghost use Rattle.statements.specs.Ending.{IsCauseFor, IsNumberAmong, IsPlaceAmong, end_by};
+ghost use Rattle.statements.specs.work.Ending.{IsCauseFor, IsNumberAmong, IsPlaceAmong, end_by};
 ghost use Rattle.statements.specs.Faults.{endless_fault, index_fault, number_fault, rows_fault, table_fault, word_ends as ends_of_words};
 
 use crate::end::End;

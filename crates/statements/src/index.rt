@@ -4,10 +4,10 @@ ghost use Rattle.std.specs.Prelude.{◌≡◌, ◌≤◌, ℕ, IfErr, IfOk, OnEr
 ghost use Rattle.pg_base.specs.declared.limits.TheConstants.{MOST_SCRIPT_BYTES};
 ghost use Rattle.sql_lex.specs.Words.{AreWords};
 ghost use Rattle.sql_grammar.specs.Faults.{terminals};
-ghost use Rattle.ddl_reader.specs.Statements.{begins_index};
+ghost use Rattle.ddl_reader.specs.work.Statements.{begins_index};
 ghost use Rattle.sql_query.specs.Worlds.{world};
-ghost use Rattle.store.specs.Kept.{IsStoreOf};
-ghost use Rattle.statements.specs.Steps.{IsDefined, Refuses};
+ghost use Rattle.store.specs.work.Kept.{IsStoreOf};
+ghost use Rattle.statements.specs.work.Steps.{IsDefined, Refuses};
 
 use crate::end::End;
 use crate::faults::refused_index;

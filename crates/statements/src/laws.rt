@@ -9,7 +9,7 @@ ghost use Rattle.sql_grammar.specs.Faults.{fault_at};
 ghost use Rattle.sql_grammar.specs.Syntax.{Ending, IsOffered, analyze as analyze_tree};
 ghost use Rattle.sql_grammar.specs.Terminals.{Ident, token_of};
 ghost use Rattle.analyze.specs.Analysis.{table_statistics};
-ghost use Rattle.catalog.specs.Analysed.{IsAllowedTable};
+ghost use Rattle.catalog.specs.work.Analysed.{IsAllowedTable};
 ghost use Rattle.catalog.specs.Contents.{Contents, IsTable};
 ghost use Rattle.pg_base.specs.declared.faults.Fault.{Fault};
 ghost use Rattle.sql_query.specs.Worlds.{World};
@@ -17,7 +17,7 @@ ghost use Rattle.store.specs.Actions.{Action};
 ghost use Rattle.statements.specs.Accepted.{IsRead};
 ghost use Rattle.statements.specs.Faults.{IsFault, IsMeaningFault};
 ghost use Rattle.group_reply.specs.reply_Replies.{Reply};
-ghost use Rattle.store.specs.Kept.{IsStoreOf, Kept, stored_of};
+ghost use Rattle.store.specs.work.Kept.{IsStoreOf, Kept, stored_of};
 ghost use Rattle.statements.specs.Replies.{IsReply};
 
 /// A statement ends behind the place at which it begins, and inside the text.

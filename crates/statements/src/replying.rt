@@ -4,13 +4,13 @@ ghost use Rattle.std.specs.Prelude.{◌≡◌, ◌≤◌, ◌<◌, ℕ, List, If
 ghost use Rattle.pg_base.specs.declared.limits.TheConstants.{MOST_SCRIPT_BYTES};
 ghost use Rattle.sql_lex.specs.Words.{AreWords};
 ghost use Rattle.sql_grammar.specs.Faults.{terminals};
-ghost use Rattle.index_reader.specs.AdviseStatements.{begins_advise};
+ghost use Rattle.index_reader.specs.work.AdviseStatements.{begins_advise};
 ghost use Rattle.heap.specs.Stored.{Stored};
 ghost use Rattle.sql_query.specs.Worlds.{world};
-ghost use Rattle.store.specs.Kept.{IsStoreOf};
+ghost use Rattle.store.specs.work.Kept.{IsStoreOf};
 ghost use Rattle.group_reply.specs.reply_Putting.{HasWriteCause};
 ghost use Rattle.group_reply.specs.reply_Replies.{traces};
-ghost use Rattle.statements.specs.Steps.{AreNoDefinition, IsAnsweredOver, IsTalliedOver, Refuses, StopsOver, begins_check, begins_use};
+ghost use Rattle.statements.specs.work.Steps.{AreNoDefinition, IsAnsweredOver, IsTalliedOver, Refuses, StopsOver, begins_check, begins_use};
 
 use crate::advising::{advice, advise};
 use crate::checking::{check, verdict_of};

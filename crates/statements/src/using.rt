@@ -8,10 +8,10 @@ ghost use Rattle.heap.specs.Stored.{Stored};
 ghost use Rattle.sql_query.specs.Worlds.{world};
 ghost use Rattle.group_reply.specs.reply_Putting.{HasWriteCause};
 ghost use Rattle.group_reply.specs.reply_Replies.{traces};
-ghost use Rattle.statements.specs.Claims.{IsOrder, IsPlace, world_at};
-ghost use Rattle.statements.specs.Ending.{end_of_broken};
-ghost use Rattle.statements.specs.Steps.{Refuses, begins_use};
-ghost use Rattle.statements.specs.Places.{IsAnsweredAt, StopsAnswerAt};
+ghost use Rattle.statements.specs.work.Claims.{IsOrder, IsPlace, world_at};
+ghost use Rattle.statements.specs.work.Ending.{end_of_broken};
+ghost use Rattle.statements.specs.work.Steps.{Refuses, begins_use};
+ghost use Rattle.statements.specs.work.Places.{IsAnsweredAt, StopsAnswerAt};
 
 use crate::claims::{Claim, Given, read_claim};
 use crate::end::End;

@@ -4,7 +4,7 @@ use Rattle.std.specs.Prelude.{nat_lt}
 use Rattle.std.proofs.lemmas.List.{map-append}
 use Rattle.pg_base.specs.declared.numbers.ColNo.{ColNo}
 use Rattle.pg_base.specs.declared.numbers.TableNo.{TableNo}
-use Rattle.pg_value.specs.Order.{IsOfFamily}
+use Rattle.pg_value.specs.work.Order.{IsOfFamily}
 use Rattle.pg_value.specs.Sorting.{in_order}
 use Rattle.pg_value.proofs.SortingLemmas.{in_order_again}
 use Rattle.opfamily.specs.KeyOrder.{IndexEntry, entry_order, key_family}
@@ -14,11 +14,11 @@ use Rattle.opfamily.specs.declared.classes.Method.TheVariants.{Btree, Hash}
 use Rattle.opfamily.proofs.KeyOrderLemmas.{entries_total}
 use Rattle.pg_expr.specs.Cond.{Cond}
 use Rattle.heap.specs.Stored.{Values}
-use Rattle.btree_index.specs.Tree.{IsEntryOf, Tree, with_entries}
-use Rattle.hash_index.specs.Held.{Held, HashTable, held_order, with_held}
+use Rattle.btree_index.specs.work.Tree.{IsEntryOf, Tree, with_entries}
+use Rattle.hash_index.specs.work.Held.{Held, HashTable, held_order, with_held}
 use Rattle.hash_index.proofs.HeldLemmas.{held_total}
 use Rattle.catalog.specs.Indexes.{Index}
-use Rattle.store.specs.Kept.{sorted, hashed, below, built_by, built_of, first_key, found, held_of, hash_table, tree_of}
+use Rattle.store.specs.work.Kept.{sorted, hashed, below, built_by, built_of, first_key, found, held_of, hash_table, tree_of}
 use Rattle.store.proofs.FoundLemmas.{whole, whole-cut, whole-grown}
 use Rattle.store.proofs.OrderLemmas.{filter-in_order}
 

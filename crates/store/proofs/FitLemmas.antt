@@ -9,10 +9,11 @@ use Rattle.std.proofs.lemmas.Slice.Zip.{AllZip-long}
 use Rattle.pg_value.specs.declared.columns.Column.{Column}
 use Rattle.pg_value.specs.declared.operators.Op.TheVariants.{Eq}
 use Rattle.pg_value.specs.declared.value.SqlType.{SqlType}
-use Rattle.pg_value.specs.Order.{IsOfFamily}
+use Rattle.pg_value.specs.work.Order.{IsOfFamily}
 use Rattle.opfamily.specs.Answers.{accepted, family_of, number_in}
 use Rattle.opfamily.specs.Table.{class}
-use Rattle.opfamily.specs.KeyOrder.{AreKeyValues, IndexEntry, family_or_integer, first_value, key_family}
+use Rattle.opfamily.specs.KeyOrder.{IndexEntry, family_or_integer, first_value, key_family}
+use Rattle.opfamily.specs.work.KeyOrder.{AreKeyValues}
 use Rattle.opfamily.specs.declared.classes.IndexKey.{IndexKey}
 use Rattle.opfamily.specs.declared.classes.Method.{Method}
 use Rattle.opfamily.specs.declared.classes.Method.TheVariants.{Hash}
@@ -21,18 +22,18 @@ use Rattle.opfamily.specs.declared.classes.OpClass.TheVariants.{Int2Ops, Int4Ops
 use Rattle.pg_expr.specs.declared.operand.ColRef.{ColRef}
 use Rattle.std.specs.Option.{option_map}
 use Rattle.pg_expr.specs.declared.expr.Expr.{Expr}
-use Rattle.pg_expr.specs.View.{cond}
+use Rattle.pg_expr.specs.work.View.{cond}
 use Rattle.pg_expr.specs.Columns.{each_column}
 use Rattle.pg_expr.specs.Cond.{Cond}
-use Rattle.pg_expr.specs.Typed.{FitsTypes}
+use Rattle.pg_expr.specs.work.Typed.{FitsTypes}
 use Rattle.pg_expr.proofs.ColumnLaws.{weaker-each}
 use Rattle.eq_classes.proofs.SideLemmas.{type_fits}
 use Rattle.heap.specs.Stored.{IsRowOf, IsColumnValue, Values}
 use Rattle.catalog.specs.Indexes.{FitsColumns, Index, IsConditionOf, IsKeyOf, IsLawfulIndex, IsPredicateOf, no_column, type_at}
-use Rattle.btree_index.specs.Tree.{IsEntryOf}
-use Rattle.hash_index.specs.Held.{Held}
+use Rattle.btree_index.specs.work.Tree.{IsEntryOf}
+use Rattle.hash_index.specs.work.Held.{Held}
 use Rattle.plan_tree.specs.Entries.{cell, entry, meets_predicate}
-use Rattle.store.specs.Kept.{first_key, found, held_of}
+use Rattle.store.specs.work.Kept.{first_key, found, held_of}
 use Rattle.store.proofs.FoundLemmas.{among, among-suc}
 use Rattle.pg_base.proofs.ListLemmas.{each-map as each-mapped}
 use Rattle.heap.proofs.FitsLemmas.{fits-at}

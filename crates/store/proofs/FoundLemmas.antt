@@ -13,9 +13,9 @@ use Rattle.opfamily.specs.KeyOrder.{IndexEntry, first_value}
 use Rattle.opfamily.specs.declared.classes.IndexKey.{IndexKey}
 use Rattle.heap.specs.Stored.{Values}
 use Rattle.catalog.specs.Indexes.{Index}
-use Rattle.hash_index.specs.Held.{Held}
+use Rattle.hash_index.specs.work.Held.{Held}
 use Rattle.plan_tree.specs.Entries.{cell, entry, meets_predicate}
-use Rattle.store.specs.Kept.{found, held_of}
+use Rattle.store.specs.work.Kept.{found, held_of}
 
 -- the first numbers from one on, and behind them further ones
 range-add : (a m n : ℕ) → range_with_len a (m + n) ≡ range_with_len a m ++ range_with_len (a + m) n

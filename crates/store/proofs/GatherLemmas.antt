@@ -7,14 +7,15 @@ use Rattle.pg_base.specs.declared.numbers.TableNo.{TableNo}
 use Rattle.heap.specs.Stored.{Stored}
 use Rattle.analyze.specs.Analysis.{table_statistics}
 use Rattle.analyze.proofs.LawLemmas.{columns-fit, table-allowed}
-use Rattle.catalog.specs.Analysed.{FitColumns, IsAllowedTable, IsTableRefusal, with_analysis}
+use Rattle.catalog.specs.Analysed.{with_analysis}
+use Rattle.catalog.specs.work.Analysed.{FitColumns, IsAllowedTable, IsTableRefusal}
 use Rattle.catalog.specs.Contents.{Contents, IsTable, table_at}
 use Rattle.catalog.specs.Statistics.{Statistics}
 use Rattle.catalog.specs.declared.fault.CatalogFault.{CatalogFault}
 use Rattle.catalog.specs.declared.fault.CatalogFault.TheVariants as refused
 use Rattle.catalog.specs.declared.statistics.TableStats.{TableStats}
 use Rattle.sql_query.specs.Worlds.{nothing_stored, world}
-use Rattle.store.specs.Kept.{IsStoreOf, Kept, stored_of}
+use Rattle.store.specs.work.Kept.{IsStoreOf, Kept, stored_of}
 use Rattle.store.proofs.LawLemmas.{definition-changed}
 use Rattle.store.proofs.StoreLemmas.{as-many-stored, holds}
 use Rattle.store.specs.Actions.{after, gather}

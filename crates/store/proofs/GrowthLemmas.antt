@@ -15,8 +15,8 @@ use Rattle.catalog.specs.Indexes.{Index, IsLawfulIndex}
 use Rattle.catalog.proofs.NumberLemmas.{numbers-same, numbers-other}
 use Rattle.sql_query.specs.Worlds.{nothing_stored}
 use Rattle.store.specs.declared.built.BuiltIndex.{BuiltIndex}
-use Rattle.store.specs.Kept.{Built, below, built_of, built_over, cut_back, first_rows}
-use Rattle.store.specs.View.{built}
+use Rattle.store.specs.work.Kept.{Built, below, built_of, built_over, cut_back, first_rows}
+use Rattle.store.specs.work.View.{built}
 use Rattle.store.proofs.BuiltLemmas.{below-built}
 use Rattle.store.proofs.SwapLemmas.{swapped, swapped-at, set-swapped, same-swapped, cut-at, cut-own, cut-other, cut-swapped}
 

@@ -8,10 +8,11 @@ use Rattle.pg_base.specs.declared.numbers.IndexNo.{IndexNo}
 use Rattle.pg_base.specs.declared.numbers.TableNo.{TableNo}
 use Rattle.pg_value.specs.declared.columns.Column.{Column}
 use Rattle.heap.specs.Stored.{IsRowOf, Stored}
-use Rattle.catalog.specs.Contents.{Contents, IsLawful, NamedIndex, TableDef, indexes_before, new_table, no_table, table_at, with_definition, with_index, with_table}
+use Rattle.catalog.specs.Contents.{Contents, IsLawful, NamedIndex, TableDef, new_table, no_table, table_at, with_definition, with_index, with_table}
+use Rattle.catalog.specs.work.Contents.{indexes_before}
 use Rattle.catalog.specs.Indexes.{Index}
 use Rattle.sql_query.specs.Worlds.{Holds, nothing_stored}
-use Rattle.store.specs.Kept.{Built, IsStoreOf, Kept, built_of, built_over, with_heap}
+use Rattle.store.specs.work.Kept.{Built, IsStoreOf, Kept, built_of, built_over, with_heap}
 use Rattle.store.proofs.StoreLemmas.{as-many-stored}
 
 module _ {A B : Type 0} (R : A → B → Type 0) where

@@ -14,11 +14,13 @@ use Rattle.pg_value.specs.declared.columns.Column.{Column}
 use Rattle.heap.specs.declared.fault.CopyFault.{CopyFault}
 use Rattle.heap.specs.Loading.{loaded, rows_from, with_rows}
 use Rattle.heap.specs.Stored.{IsLawfulData, Stored, Values}
-use Rattle.catalog.specs.Contents.{Contents, IsIndex, IsLastIndex, IsTable, NamedIndex, TableDef, index_at, indexes_before, no_index, no_table, table_at, with_loaded}
+use Rattle.catalog.specs.Contents.{Contents, IsIndex, IsTable, NamedIndex, TableDef, index_at, no_index, no_table, table_at, with_loaded}
+use Rattle.catalog.specs.work.Contents.{IsLastIndex, indexes_before}
 use Rattle.catalog.specs.Contents as catalog
+use Rattle.catalog.specs.work.Contents as catalog_work
 use Rattle.catalog.specs.Indexes.{Index, IsLawfulIndex}
 use Rattle.sql_query.specs.Worlds.{Holds, nothing_stored, stored_at, world}
-use Rattle.store.specs.Kept.{Built, IsStoreOf, Kept, built_of, built_over, first_rows, stored_of}
+use Rattle.store.specs.work.Kept.{Built, IsStoreOf, Kept, built_of, built_over, first_rows, stored_of}
 use Rattle.store.proofs.GrowthLemmas.{lawful-index}
 
 module _ {A B : Type 0} (R : A → B → Type 0) where

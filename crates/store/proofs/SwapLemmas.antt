@@ -4,7 +4,7 @@ use Rattle.std.specs.Prelude.{nat_eq}
 use Rattle.std.proofs.lemmas.Bool.{eq-eqb, ne_eqb}
 use Rattle.pg_base.specs.declared.numbers.TableNo.{TableNo}
 use Rattle.catalog.specs.Contents.{NamedIndex}
-use Rattle.store.specs.Kept.{Built, below, cut_back}
+use Rattle.store.specs.work.Kept.{Built, below, cut_back}
 
 module _ {A B : Type 0} (f g : A → B) where
   -- the first n by f, the others by g

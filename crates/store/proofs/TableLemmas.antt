@@ -8,7 +8,8 @@ use Rattle.heap.specs.Stored.{Stored}
 use Rattle.catalog.specs.Contents.{Contents, IsLawful, IsTable, TableDef, indexes_of, table_at, with_loaded, with_table}
 use Rattle.catalog.proofs.NumberLemmas.{numbers-past}
 use Rattle.sql_query.specs.Worlds.{nothing_stored, world}
-use Rattle.store.specs.Kept.{IsStoreOf, Kept, load_looks, stored_of}
+use Rattle.store.specs.Kept.{load_looks}
+use Rattle.store.specs.work.Kept.{IsStoreOf, Kept, stored_of}
 use Rattle.store.proofs.StoreLemmas.{as-many-stored, holds}
 use Rattle.store.specs.Actions.{after, fill}
 

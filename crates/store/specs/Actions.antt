@@ -1,18 +1,17 @@
 -- What a statement does to what is stored. Own.
-use Rattle.std.specs.Prelude.{◌≡◌, ℕ, List, [], ◌∷◌, ◌++◌, length, slice_set}
+use Rattle.std.specs.Prelude.{ℕ, List, [], ◌∷◌, ◌++◌, length, slice_set}
 use Rattle.pg_base.specs.declared.numbers.ColNo.{ColNo}
 use Rattle.pg_base.specs.declared.numbers.TableNo.{TableNo}
 use Rattle.pg_value.specs.declared.columns.Column.{Column}
 use Rattle.analyze.specs.Analysis.{table_statistics}
 use Rattle.catalog.specs.Analysed.{with_analysis}
-use Rattle.catalog.specs.Contents.{Contents, NamedIndex, new_table, with_index, with_table, with_loaded, with_sizes, with_stats}
+use Rattle.catalog.specs.Contents.{NamedIndex, new_table, with_index, with_table, with_loaded, with_sizes, with_stats}
 use Rattle.catalog.specs.Indexes.{Index}
 use Rattle.catalog.specs.Statistics.{Statistics}
 use Rattle.heap.specs.Stored.{Stored}
 use Rattle.sql_query.specs.Grouped.{GroupedQuery}
 use Rattle.sql_query.specs.Queries.{Query}
 use Rattle.sql_query.specs.Worlds.{World, stored_at, world}
-use Rattle.store.specs.Kept.{Kept}
 
 -- what a statement comes to once it is read and bound: a change of the catalogue or of a table's rows, or an answer
 pub data Action : Type 0 where
@@ -68,7 +67,3 @@ after w (verify q block) = w
 after w (follow q block) = w
 after w (answer_groups g) = w
 after w (explain_groups g) = w
-
--- an action turns a catalogue and what is kept of it, the first two, into the others
-abbrev pub IsWorldAfter : Action → Contents → Kept → Contents → Kept → Type 0
-IsWorldAfter action c k d m = world d m.stored ≡ after (world c k.stored) action

@@ -1,4 +1,3 @@
 pub mod Kept
-pub mod View
 pub mod Actions
-pub mod Growth
+pub mod work

@@ -2,10 +2,10 @@
 
 ghost use Rattle.std.specs.Prelude.{◌≡◌, ◌≤◌, ◌+◌, ◌-◌, [], IfOk, List, OnErr, OnOk, length, take};
 ghost use Rattle.pg_value.specs.declared.columns.Column.{Column};
-ghost use Rattle.catalog.specs.Entries.{index_of};
+ghost use Rattle.catalog.specs.work.Entries.{index_of};
 ghost use Rattle.catalog.specs.Indexes.{IsLawfulIndex};
-ghost use Rattle.store.specs.Kept.{below, built_of};
-ghost use Rattle.store.specs.View.{built};
+ghost use Rattle.store.specs.work.Kept.{below, built_of};
+ghost use Rattle.store.specs.work.View.{built};
 
 use crate::entries::{entries_from, hashed_from};
 use btree_index::BTree;

@@ -1,10 +1,10 @@
 //! The entries of rows.
 
 ghost use Rattle.std.specs.Prelude.{◌≡◌, ◌≤◌, ◌<◌, ◌+◌, ◌-◌, ◌∷◌, [], All, IfOk, OnOk, length, map};
-ghost use Rattle.catalog.specs.Entries.{index_of};
+ghost use Rattle.catalog.specs.work.Entries.{index_of};
 ghost use Rattle.catalog.specs.Indexes.{IsLawfulIndex};
 ghost use Rattle.plan_tree.specs.Entries.{cell};
-ghost use Rattle.store.specs.Kept.{AreIndexEntries, AreOfKeyFamily, found, held_of};
+ghost use Rattle.store.specs.work.Kept.{AreIndexEntries, AreOfKeyFamily, found, held_of};
 
 use crate::rows::passes;
 use btree_index::Entry;

@@ -4,9 +4,10 @@ ghost use Rattle.std.specs.Prelude.{◌≡◌, List, ℕ, Some, length, slice_ge
 ghost use Rattle.pg_base.specs.declared.numbers.IndexNo.{IndexNo};
 ghost use Rattle.pg_base.specs.declared.numbers.TableNo.{TableNo};
 ghost use Rattle.pg_value.specs.declared.columns.Column.{Column};
-ghost use Rattle.catalog.specs.Contents.{Contents, IsIndex, IsLawful, TableDef, indexes_before, new_table, nothing, table_at, with_definition, with_index, with_table};
+ghost use Rattle.catalog.specs.Contents.{Contents, IsIndex, IsLawful, TableDef, new_table, nothing, table_at, with_definition, with_index, with_table};
+ghost use Rattle.catalog.specs.work.Contents.{indexes_before};
 ghost use Rattle.catalog.specs.Indexes.{Index};
-ghost use Rattle.store.specs.Kept.{IsStoreOf, Kept, built_at, stored_without_rows, nothing_kept, with_heap};
+ghost use Rattle.store.specs.work.Kept.{IsStoreOf, Kept, built_at, stored_without_rows, nothing_kept, with_heap};
 
 /// A law: the store of no table is that of the catalogue without definitions; with the heap of a new table a store is that
 /// of the catalogue with the table; it stays the catalogue's after other statistics; and the catalogue before its newest

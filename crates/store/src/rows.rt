@@ -2,7 +2,7 @@
 
 ghost use Rattle.std.specs.Prelude.{◌≡◌};
 ghost use Rattle.std.specs.Option.{option_map};
-ghost use Rattle.pg_expr.specs.View.{cond};
+ghost use Rattle.pg_expr.specs.work.View.{cond};
 ghost use Rattle.catalog.specs.Indexes.{IsPredicateOf};
 ghost use Rattle.heap.specs.Stored.{IsRowOf};
 ghost use Rattle.plan_tree.specs.Entries.{meets_predicate};

@@ -2,8 +2,9 @@
 
 ghost use Rattle.std.specs.Prelude.{◌≡◌, ◌≤◌, ◌+◌, OnErr, OnOk};
 ghost use Rattle.catalog.specs.Contents.{IsTable};
-ghost use Rattle.store.specs.Kept.{IsStoreOf, row_count};
+ghost use Rattle.store.specs.work.Kept.{IsStoreOf, row_count};
 ghost use Rattle.store.specs.Actions as actions;
+ghost use Rattle.store.specs.work.Actions as actions_work;
 
 use crate::Store;
 use analyze::analyze_table;
@@ -24,7 +25,7 @@ pub fn gather<C: Counters>(
     requires store { IsStoreOf catalog.old store.now }
     requires table { IsTable catalog.old table }
     ensures gathered { OnOk result
-        (actions.IsWorldAfter (actions.gather table) catalog.old store.now catalog.new store.now) }
+        (actions_work.IsWorldAfter (actions.gather table) catalog.old store.now catalog.new store.now) }
     ensures store { IsStoreOf catalog.new store.now }
     ensures unchanged { OnErr result (catalog.new ≡ catalog.old) }
     ensures looks { OnOk result (reads.new ≡ reads.old + row_count store.now table) }

@@ -1,11 +1,12 @@
 //! The store of a catalogue.
 
 ghost use Rattle.std.specs.Prelude.{◌≡◌, ◌≢◌, ◌≤◌, ◌<◌, ◌+◌, ◌-◌, ◌*◌, Err, IfErr, IfOk, Ok, OnErr, OnOk, Some, length, map, slice_get, slice_set};
-ghost use Rattle.catalog.specs.Contents.{IsLastIndex, IsTable, indexes_before, with_loaded};
-ghost use Rattle.heap.specs.Loading.{NamesColumnOf};
-ghost use Rattle.store.specs.Kept.{IsStoreOf, IsWithinLoad, cut_back, index_count, indexed_rows, loaded_block, nothing_kept, row_count, stored_of, with_heap};
-ghost use Rattle.store.specs.View.{built};
-ghost use Rattle.store.specs.Growth.{built_with, built_without, grown_rows, grown_table, growth_looks};
+ghost use Rattle.catalog.specs.Contents.{IsTable, with_loaded};
+ghost use Rattle.catalog.specs.work.Contents.{IsLastIndex, indexes_before};
+ghost use Rattle.heap.specs.work.Loading.{NamesColumnOf};
+ghost use Rattle.store.specs.work.Kept.{IsStoreOf, IsWithinLoad, cut_back, index_count, indexed_rows, loaded_block, nothing_kept, row_count, stored_of, with_heap};
+ghost use Rattle.store.specs.work.View.{built};
+ghost use Rattle.store.specs.work.Growth.{built_with, built_without, grown_rows, grown_table, growth_looks};
 
 use crate::built::BuiltIndex;
 use catalog::Catalog;
@@ -34,8 +35,8 @@ impl<C: Counters> Drop for Store<C> {
 
 impl<C: Counters> Model for Store<C> {
     ghost use Rattle.std.specs.Prelude.{map};
-    ghost use Rattle.store.specs.Kept.{Kept};
-    ghost use Rattle.store.specs.View.{built};
+    ghost use Rattle.store.specs.work.Kept.{Kept};
+    ghost use Rattle.store.specs.work.View.{built};
 
     ghost Value = { Kept };
 

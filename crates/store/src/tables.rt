@@ -2,13 +2,16 @@
 
 ghost use Rattle.std.specs.Prelude.{◌≡◌, ◌≢◌, ◌≤◌, ◌+◌, All, IfErr, Ok, Err, OnErr, OnOk, length};
 ghost use Rattle.catalog.specs.Contents.{IsTable, table_at};
-ghost use Rattle.catalog.specs.Entries.{index_of};
+ghost use Rattle.catalog.specs.work.Entries.{index_of};
 ghost use Rattle.pg_base.specs.Names.{IsName};
-ghost use Rattle.catalog.specs.Tables.{Fits, IsAcceptable, IsAcceptableIndex, IsIndexRefusal, IsRefusal};
-ghost use Rattle.heap.specs.Loading.{NamesColumnOf};
+ghost use Rattle.catalog.specs.Tables.{IsAcceptable, IsAcceptableIndex, IsIndexRefusal, IsRefusal};
+ghost use Rattle.catalog.specs.work.Tables.{Fits};
+ghost use Rattle.heap.specs.work.Loading.{NamesColumnOf};
 ghost use Rattle.heap.specs.Stored.{Stored};
-ghost use Rattle.store.specs.Kept.{IsStoreOf, IsWithinLoad, load_looks, loaded_block, row_count, stored_of};
+ghost use Rattle.store.specs.Kept.{load_looks};
+ghost use Rattle.store.specs.work.Kept.{IsStoreOf, IsWithinLoad, loaded_block, row_count, stored_of};
 ghost use Rattle.store.specs.Actions as actions;
+ghost use Rattle.store.specs.work.Actions as actions_work;
 
 use crate::Store;
 use catalog::{Catalog, CatalogFault, IndexDef};
@@ -32,7 +35,7 @@ pub fn make<C: Counters>(
     requires names { All IsName names.items }
     ensures accepted { OnOk result (IsAcceptable catalog.old name names.items) }
     ensures made { OnOk result
-        (actions.IsWorldAfter (actions.make name names.items columns)
+        (actions_work.IsWorldAfter (actions.make name names.items columns)
         catalog.old store.old catalog.new store.new) }
     ensures store { IsStoreOf catalog.new store.new }
     ensures cause { IfErr result (λ e.
@@ -63,7 +66,7 @@ pub fn build<C: Counters>(
     requires fits { Fits catalog.old (index_of def) }
     ensures accepted { OnOk result (IsAcceptableIndex catalog.old name (index_of def)) }
     ensures built { OnOk result
-        (actions.IsWorldAfter (actions.build name (index_of def))
+        (actions_work.IsWorldAfter (actions.build name (index_of def))
         catalog.old store.old catalog.new store.new) }
     ensures store { IsStoreOf catalog.new store.new }
     ensures cause { IfErr result (IsIndexRefusal catalog.old name (index_of def)) }
@@ -90,7 +93,7 @@ pub fn fill<C: Counters>(
     requires store { IsStoreOf catalog.old store.old }
     requires table { IsTable catalog.old table }
     ensures filled { OnOk result ((s : Stored) × (loaded_block store.old table block.now ≡ Ok s) ×
-        actions.IsWorldAfter (actions.fill table s) catalog.old store.old catalog.new store.new ×
+        actions_work.IsWorldAfter (actions.fill table s) catalog.old store.old catalog.new store.new ×
         (reads.new ≡ reads.old + load_looks catalog.old table (stored_of store.old table) s)) }
     ensures store { IsStoreOf catalog.new store.new }
     ensures fault { IfErr result (λ e.

@@ -4,11 +4,11 @@ ghost use Rattle.std.specs.Prelude.{◌≡◌, ◌<◌, true, All, IfOk, OnOk, l
 ghost use Rattle.pg_base.specs.Names.{begins_name};
 ghost use Rattle.pg_value.specs.declared.value.SqlType.TheVariants.{Text as TextType};
 ghost use Rattle.catalog.specs.Contents.{IsTable, nothing};
-ghost use Rattle.catalog.specs.Entries.{index_of};
+ghost use Rattle.catalog.specs.work.Entries.{index_of};
 ghost use Rattle.catalog.specs.Indexes.{FitsColumns};
-ghost use Rattle.catalog.specs.Known.{statistics};
+ghost use Rattle.catalog.specs.work.Known.{statistics};
 ghost use Rattle.catalog.specs.Statistics.{AreValuesOf, IsValueOf};
-ghost use Rattle.catalog.specs.TextTables.{HasTexts, texts};
+ghost use Rattle.catalog.specs.work.TextTables.{HasTexts, texts};
 
 use catalog::{Catalog, CatalogFault, ColumnStats, IndexDef};
 use fixtures::{columns, name, names};

@@ -2,7 +2,7 @@
 
 ghost use Rattle.std.specs.Prelude.{◌≡◌};
 ghost use Rattle.catalog.specs.Contents.{IsTable, nothing};
-ghost use Rattle.catalog.specs.TextTables.{HasTexts};
+ghost use Rattle.catalog.specs.work.TextTables.{HasTexts};
 
 use crate::catalogues::{Lists, add_first, add_small, definition, keep};
 use catalog::{Catalog, CatalogFault, ColumnStats, IndexDef};

@@ -29,7 +29,7 @@ fn found(rel: u8, col: u8) -> Found
 impl Scope for Two {
     ghost use Rattle.std.specs.Prelude.{[], ◌∷◌, cond, nat_eq};
     ghost use Rattle.pg_value.specs.declared.value.SqlType.TheVariants as types;
-    ghost use Rattle.expr_reader.specs.Scope.{shown};
+    ghost use Rattle.expr_reader.specs.work.Scope.{shown};
 
     ghost visible = { λ two. shown (116 ∷ []) (97 ∷ []) 0 0 ∷ shown (116 ∷ []) (115 ∷ []) 0 1 ∷ shown (116 ∷ []) (102 ∷ []) 0 2 ∷
         shown (117 ∷ []) (97 ∷ []) 1 0 ∷ shown (117 ∷ []) (110 ∷ []) 1 1 ∷ [] };

@@ -8,9 +8,9 @@ use Rattle.catalog.specs.Contents.{Contents, IsTable as IsTableOf}
 use Rattle.eq_classes.specs.Classes.{Class, Premises, first_mention}
 use Rattle.eq_classes.specs.Clauses.{Clause, ClassTable, clause_list}
 use Rattle.eq_classes.specs.Holding.{IsClassTable}
-use Rattle.path_cost.specs.Columns.{IsOver}
+use Rattle.path_cost.specs.work.Columns.{IsOver}
 use Rattle.sql_query.specs.Queries.{Query, width}
-use Rattle.plan_tree.specs.Reads.{IsOverTables}
+use Rattle.plan_tree.specs.work.Reads.{IsOverTables}
 
 no-class : (n : Class → ℕ) (cs : List Class) → All (λ c. n c < 0) cs → cs ≡ []
 no-class n [] h = refl

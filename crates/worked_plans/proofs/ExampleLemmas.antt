@@ -12,12 +12,12 @@ use Rattle.pg_expr.specs.Typed.{some_value}
 use Rattle.catalog.specs.Contents.{Contents, IsTable}
 use Rattle.catalog.specs.Indexes.{type_at}
 use Rattle.catalog.specs.Range.{Range}
-use Rattle.catalog.specs.TextTables.{HasTexts}
+use Rattle.catalog.specs.work.TextTables.{HasTexts}
 use Rattle.eq_classes.specs.Clauses.{Clause}
-use Rattle.path_cost.specs.Columns.{IsOver}
+use Rattle.path_cost.specs.work.Columns.{IsOver}
 use Rattle.sql_query.specs.Queries.{Query}
-use Rattle.plan_tree.specs.Reads.{IsOverTables}
-use Rattle.worked_plans.specs.Examples.{first_of_left, first_of_right, firsts_equal, twice}
+use Rattle.plan_tree.specs.work.Reads.{IsOverTables}
+use Rattle.worked_plans.specs.work.Examples.{first_of_left, first_of_right, firsts_equal, twice}
 
 abbrev first : TableNo
 first = record { 0 = 0 }

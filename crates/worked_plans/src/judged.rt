@@ -4,10 +4,10 @@
 ghost use Rattle.std.specs.Prelude.{◌≡◌, ◌<◌, ◌≤◌, All, IfOk, IsTrue, length};
 ghost use Rattle.pg_base.specs.declared.limits.TheConstants.{MOST_CONJUNCTS};
 ghost use Rattle.pg_expr.specs.Cond.{cond_and, no_conds};
-ghost use Rattle.pg_expr.specs.View.{cond, conds};
-ghost use Rattle.catalog.specs.TextTables.{HasTexts};
+ghost use Rattle.pg_expr.specs.work.View.{cond, conds};
+ghost use Rattle.catalog.specs.work.TextTables.{HasTexts};
 ghost use Rattle.eq_classes.specs.Clauses.{Clause};
-ghost use Rattle.worked_plans.specs.Examples.{firsts_equal, twice};
+ghost use Rattle.worked_plans.specs.work.Examples.{firsts_equal, twice};
 
 use crate::texts::{Texts, indexed};
 use catalog::{Catalog, RangeTable};

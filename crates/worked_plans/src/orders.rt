@@ -3,7 +3,7 @@
 ghost use Rattle.std.specs.Prelude.{◌≡◌, ◌≤◌, IfOk, length};
 ghost use Rattle.pg_base.specs.declared.limits.TheConstants.{MOST_CONJUNCTS};
 ghost use Rattle.pg_expr.specs.Cond.{compare, cond_and, no_conds};
-ghost use Rattle.pg_expr.specs.View.{conds};
+ghost use Rattle.pg_expr.specs.work.View.{conds};
 ghost use Rattle.pg_expr.specs.declared.operand.Operand.TheVariants.{Col, Lit};
 ghost use Rattle.pg_value.specs.declared.operators.Op.TheVariants.{Eq};
 ghost use Rattle.pg_value.specs.declared.value.Value.TheVariants.{Int};

@@ -4,7 +4,7 @@
 ghost use Rattle.std.specs.Prelude.{◌<◌};
 ghost use Rattle.catalog.specs.Contents.{IsIndex};
 ghost use Rattle.sql_query.specs.Queries.{width};
-ghost use Rattle.plan_tree.specs.Reads.{IsOverTables};
+ghost use Rattle.plan_tree.specs.work.Reads.{IsOverTables};
 
 use crate::script::{Stopped, define, query};
 use catalog::Catalog;

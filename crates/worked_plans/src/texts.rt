@@ -2,9 +2,9 @@
 
 ghost use Rattle.std.specs.Prelude.{◌≡◌, true, IfOk};
 ghost use Rattle.pg_base.specs.Names.{begins_name};
-ghost use Rattle.catalog.specs.Entries.{index_of};
+ghost use Rattle.catalog.specs.work.Entries.{index_of};
 ghost use Rattle.catalog.specs.Indexes.{FitsColumns};
-ghost use Rattle.catalog.specs.TextTables.{HasTexts, texts};
+ghost use Rattle.catalog.specs.work.TextTables.{HasTexts, texts};
 
 use catalog::{Catalog, CatalogFault, IndexDef};
 use fixtures::{columns, name, names};

@@ -1,8 +1,8 @@
 //! CREATE INDEX read and refused. Kinds and places were found by a reader written apart.
 
 ghost use Rattle.std.specs.Prelude.{◌≤◌, ◌^◌, length, IfOk};
-ghost use Rattle.index_reader.specs.Reads.{index_meant};
-ghost use Rattle.index_reader.specs.Soundness.{IsSound};
+ghost use Rattle.index_reader.specs.work.Reads.{index_meant};
+ghost use Rattle.index_reader.specs.work.Soundness.{IsSound};
 
 use crate::cases::{Cases, Reader, Tables, Wrong, first_failing};
 use crate::tables::one_table;

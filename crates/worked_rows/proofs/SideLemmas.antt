@@ -6,7 +6,7 @@ use Rattle.pg_base.specs.Sets.{has}
 use Rattle.pg_base.specs.declared.rel_set.RelSet.{RelSet}
 use Rattle.pg_base.proofs.SetLaws.{has-zero}
 use Rattle.eq_classes.specs.Clauses.{Set}
-use Rattle.heap.specs.Tuples.{TupleList, padded, padded_tuples}
+use Rattle.heap.specs.work.Tuples.{TupleList, padded, padded_tuples}
 use Rattle.pathkeys.specs.Keys.{Keys}
 use Rattle.sql_query.specs.Queries.{Query, width}
 use Rattle.sql_query.specs.Tuples.{Tuple, no_rows}
@@ -14,11 +14,11 @@ use Rattle.sql_query.specs.WellBound.{IsWellBound}
 use Rattle.sql_query.specs.Worlds.{World, IsWorld}
 use Rattle.plan_tree.specs.Plans.{Plan, param_of, set_of}
 use Rattle.plan_tree.specs.Run.{run}
-use Rattle.plan_tree.specs.Sorted.{AreSorted}
+use Rattle.plan_tree.specs.work.Sorted.{AreSorted}
 use Rattle.plan_tree.specs.Space.{HasKeys, IsBuilt, IsEmpty}
-use Rattle.scan_probes.specs.Scenes.{AreRowsOf}
-use Rattle.scan_exec.specs.Plans.{IsScan, param_set, relation_of}
-use Rattle.sort_rows.specs.Rows.{AllHaveRows}
+use Rattle.scan_probes.specs.work.Scenes.{AreRowsOf}
+use Rattle.scan_exec.specs.work.Plans.{IsScan, param_set, relation_of}
+use Rattle.sort_rows.specs.work.Rows.{AllHaveRows}
 use Rattle.executor.proofs.RankLemmas.{none-padded, rank-none}
 use Rattle.executor.proofs.RowLemmas.{kept_have_rows}
 use Rattle.executor.proofs.ScanLemmas.{scan_set}

@@ -3,7 +3,7 @@
 
 ghost use Rattle.std.specs.Prelude.{◌≡◌, ◌<◌};
 ghost use Rattle.sql_query.specs.WellBound.{IsWellBound};
-ghost use Rattle.store.specs.Kept.{IsStoreOf};
+ghost use Rattle.store.specs.work.Kept.{IsStoreOf};
 
 use crate::joins::{Way, see_join};
 use crate::plans::{Drawn, see_tuples};

@@ -2,17 +2,17 @@
 
 ghost use Rattle.std.specs.Prelude.{IsTrue};
 ghost use Rattle.pg_base.specs.Sets.{has};
-ghost use Rattle.heap.specs.Tuples.{padded_tuples};
+ghost use Rattle.heap.specs.work.Tuples.{padded_tuples};
 ghost use Rattle.sql_query.specs.Queries.{width};
 ghost use Rattle.sql_query.specs.WellBound.{IsWellBound};
 ghost use Rattle.sql_query.specs.Worlds.{world};
-ghost use Rattle.store.specs.Kept.{IsStoreOf};
-ghost use Rattle.plan_tree.specs.Sorted.{AreSorted};
-ghost use Rattle.plan_tree.specs.Views.{plan};
-ghost use Rattle.sort_rows.specs.Rows.{AllHaveRows};
-ghost use Rattle.merge_exec.specs.Keys.{AreJoining};
-ghost use Rattle.merge_exec.specs.Pairs.{AreDisjointSides};
-ghost use Rattle.worked_rows.specs.Sides.{AreSides};
+ghost use Rattle.store.specs.work.Kept.{IsStoreOf};
+ghost use Rattle.plan_tree.specs.work.Sorted.{AreSorted};
+ghost use Rattle.plan_tree.specs.work.Views.{plan};
+ghost use Rattle.sort_rows.specs.work.Rows.{AllHaveRows};
+ghost use Rattle.merge_exec.specs.work.Keys.{AreJoining};
+ghost use Rattle.merge_exec.specs.work.Pairs.{AreDisjointSides};
+ghost use Rattle.worked_rows.specs.work.Sides.{AreSides};
 
 use crate::scans::{index_scan, is_whole_scan, scanned};
 use crate::scene::{Cost, Scene, counted};

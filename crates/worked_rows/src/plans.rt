@@ -1,9 +1,9 @@
 //! Whole plans run, at once and tuple by tuple.
 
 ghost use Rattle.sql_query.specs.WellBound.{IsWellBound};
-ghost use Rattle.store.specs.Kept.{IsStoreOf};
+ghost use Rattle.store.specs.work.Kept.{IsStoreOf};
 ghost use Rattle.plan_tree.specs.Space.{IsFinished};
-ghost use Rattle.plan_tree.specs.Views.{plan};
+ghost use Rattle.plan_tree.specs.work.Views.{plan};
 
 use crate::scans::index_scan;
 use crate::scene::{Cost, Scene, counted};

@@ -2,18 +2,18 @@
 
 ghost use Rattle.std.specs.Prelude.{◌≡◌, ◌<◌, IfOk, IsTrue, length};
 ghost use Rattle.pg_base.specs.Sets.{has};
-ghost use Rattle.heap.specs.Tuples.{padded_tuples};
+ghost use Rattle.heap.specs.work.Tuples.{padded_tuples};
 ghost use Rattle.sql_query.specs.Queries.{width};
 ghost use Rattle.sql_query.specs.Tuples.{no_rows};
 ghost use Rattle.sql_query.specs.WellBound.{IsWellBound};
 ghost use Rattle.sql_query.specs.Worlds.{world};
-ghost use Rattle.store.specs.Kept.{IsStoreOf};
+ghost use Rattle.store.specs.work.Kept.{IsStoreOf};
 ghost use Rattle.plan_tree.specs.Plans as plans;
 ghost use Rattle.plan_tree.specs.Run.{run};
 ghost use Rattle.plan_tree.specs.Space.{IsBuilt};
-ghost use Rattle.plan_tree.specs.Views.{plan};
-ghost use Rattle.sort_rows.specs.Rows.{AllHaveRows};
-ghost use Rattle.scan_exec.specs.Plans.{IsScan, param_set};
+ghost use Rattle.plan_tree.specs.work.Views.{plan};
+ghost use Rattle.sort_rows.specs.work.Rows.{AllHaveRows};
+ghost use Rattle.scan_exec.specs.work.Plans.{IsScan, param_set};
 
 use crate::scene::{Cost, Scene, counted};
 use crate::seen::Seen;

@@ -3,7 +3,7 @@
 ghost use Rattle.std.specs.Prelude.{◌≤◌, ◌^◌, ℕ, IfSome, length};
 ghost use Rattle.sql_lex.specs.Words.{AreWords};
 ghost use Rattle.sql_query.specs.WellBound.{IsWellBound};
-ghost use Rattle.store.specs.Kept.{IsStoreOf};
+ghost use Rattle.store.specs.work.Kept.{IsStoreOf};
 
 use catalog::Catalog;
 use ddl_reader::{Ddl, Read, is_index, read_ddl};

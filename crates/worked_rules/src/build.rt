@@ -2,7 +2,7 @@
 
 ghost use Rattle.std.specs.Prelude.{◌≡◌, IfOk};
 ghost use Rattle.pg_expr.specs.Cond.{cond_and, no_conds, negation};
-ghost use Rattle.pg_expr.specs.View.{cond, conds};
+ghost use Rattle.pg_expr.specs.work.View.{cond, conds};
 
 use pg_base::{ColNo, Memory, RelNo};
 use pg_expr::{ColRef, Expr, Exprs};

@@ -5,7 +5,7 @@ ghost use Rattle.pg_value.specs.declared.value.SqlType.TheVariants.{Int8};
 ghost use Rattle.opfamily.specs.Answers.{does_exist};
 ghost use Rattle.pg_expr.specs.Columns.{each_column, each_column_of};
 ghost use Rattle.pg_expr.specs.Typed.{IsTyped, AreTyped};
-ghost use Rattle.pg_expr.specs.View.{cond, conds};
+ghost use Rattle.pg_expr.specs.work.View.{cond, conds};
 
 use crate::build::column;
 use eq_classes::{ClassNo, Classes, ClauseSet, OrderItem};

@@ -1,7 +1,7 @@
 //! Costs of worked plans, computed by hand.
 
 ghost use Rattle.std.specs.Prelude.{◌≡◌, IsTrue};
-ghost use Rattle.cost_rules.specs.Costs.{IsEstimate};
+ghost use Rattle.cost_rules.specs.work.Costs.{IsEstimate};
 
 use cost_rules::{
     ENTRIES_PER_PAGE, HASH_DESCENT, MOST_COST, MOST_ESTIMATE, Pair, bitmap_scan, btree_descent,

@@ -17,7 +17,7 @@ enum Clauses {
 
 impl ClauseList for Clauses {
     ghost use Rattle.std.specs.Prelude.{[], ◌∷◌};
-    ghost use Rattle.pg_expr.specs.View.{cond};
+    ghost use Rattle.pg_expr.specs.work.View.{cond};
     ghost use Rattle.worked_rules.specs.declared.implications.Clauses.TheVariants.{Nothing, One, Two};
 
     ghost conditions = { elim [ Nothing e ↦ [] | One e ↦ cond e ∷ [] | Two e f ↦ cond e ∷ cond f ∷ [] ] };

@@ -4,7 +4,7 @@ ghost use Rattle.std.specs.Prelude.{true, IsTrue};
 ghost use Rattle.pg_value.specs.declared.value.SqlType.TheVariants.{Bool as BoolType};
 ghost use Rattle.pg_expr.specs.Columns.{each_column};
 ghost use Rattle.pg_expr.specs.Typed.{IsTyped};
-ghost use Rattle.pg_expr.specs.View.{cond};
+ghost use Rattle.pg_expr.specs.work.View.{cond};
 
 use crate::build::{column, not, pair};
 use pg_base::Memory;

@@ -1,3 +1,1 @@
-pub mod Likings
-pub mod Offers
-pub mod Worked
+pub mod work

@@ -1,7 +1,7 @@
 //! Sets of candidates that are advised, by queries that like some.
 
 ghost use Rattle.std.specs.Prelude.{◌≡◌, ◌≤◌};
-ghost use Rattle.worked_values.specs.Likings.{liked};
+ghost use Rattle.worked_values.specs.work.Likings.{liked};
 
 use advisor::{Advice, Pricer, Quote, advise};
 use pg_base::Memory;
@@ -31,7 +31,7 @@ fn liked(q: u8, s: u16) -> u64
 }
 
 impl Pricer for Likings {
-    ghost use Rattle.worked_values.specs.Likings.{IsLiked, concern, liked-depends, liked-unique};
+    ghost use Rattle.worked_values.specs.work.Likings.{IsLiked, concern, liked-depends, liked-unique};
 
     ghost count = { λ p. 2 };
 

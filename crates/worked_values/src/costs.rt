@@ -1,7 +1,7 @@
 //! Costs of plans that group, computed by hand.
 
 ghost use Rattle.std.specs.Prelude.{◌≤◌, All, IfOk};
-ghost use Rattle.group_values.specs.GroupCosts.{IsTask};
+ghost use Rattle.group_values.specs.work.GroupCosts.{IsTask};
 
 use cost_rules::MOST_ESTIMATE;
 use group_values::{Form, GroupPlan, GroupTask, choose};

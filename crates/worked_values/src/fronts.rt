@@ -10,7 +10,7 @@ struct Offer {
 }
 
 impl Ranked for Offer {
-    ghost use Rattle.worked_values.specs.Offers.{is_offer_at_most, offers-reflexive, offers-transitive};
+    ghost use Rattle.worked_values.specs.work.Offers.{is_offer_at_most, offers-reflexive, offers-transitive};
 
     ghost is_at_most = { λ a b. is_offer_at_most a.price a.days b.price b.days };
 

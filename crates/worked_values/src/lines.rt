@@ -1,7 +1,7 @@
 //! The lines of four tuples by hand, as PostgreSQL gives them.
 
 ghost use Rattle.std.specs.Prelude.{◌≡◌, IfOk, length};
-ghost use Rattle.worked_values.specs.Worked.{IsWorked};
+ghost use Rattle.worked_values.specs.work.Worked.{IsWorked};
 
 use group_values::{Call, Form, Groups, Lines, Shape, Shown, Values};
 use pg_base::Memory;

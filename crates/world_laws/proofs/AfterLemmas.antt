@@ -6,7 +6,7 @@ use Rattle.pg_base.specs.declared.numbers.TableNo.{TableNo}
 use Rattle.pg_value.specs.declared.columns.Column.{Column}
 use Rattle.analyze.specs.Analysis.{table_statistics}
 use Rattle.analyze.proofs.LawLemmas.{columns-fit, table-allowed}
-use Rattle.catalog.specs.Analysed.{FitColumns}
+use Rattle.catalog.specs.work.Analysed.{FitColumns}
 use Rattle.catalog.specs.Contents.{IsIndexOf, IsKnown, IsLawfulTable, IsTable, TableDef, new_table, no_table, table_at, with_definition}
 use Rattle.catalog.specs.Indexes.{Index, no_column, type_at}
 use Rattle.catalog.specs.Statistics.{IsLawfulStatistics, Statistics, is_count}
@@ -17,10 +17,11 @@ use Rattle.heap.specs.Loading.{loaded}
 use Rattle.heap.specs.Stored.{Stored}
 use Rattle.sql_query.specs.Worlds.{Holds, World, stored_at, world}
 use Rattle.store.specs.Actions.{Action, after, idle, make, build, size, describe, fill, gather, answer, explain, certify, advise, verify, follow, answer_groups, explain_groups}
-use Rattle.store.specs.Kept.{IsStoreOf, Kept, built_over}
+use Rattle.store.specs.work.Kept.{IsStoreOf, Kept, built_over}
 use Rattle.store.proofs.LawLemmas.{definition-changed, table-added}
 use Rattle.store.proofs.StoreLemmas.{holds}
-use Rattle.world_laws.specs.LawfulWorlds.{IsLawfulWorld, MayBeDone}
+use Rattle.world_laws.specs.LawfulWorlds.{IsLawfulWorld}
+use Rattle.world_laws.specs.work.LawfulWorlds.{MayBeDone}
 use Rattle.world_laws.proofs.LoadedLemmas.{loaded-lawful}
 
 module _ {A B : Type 0} (R : A → B → Type 0) where

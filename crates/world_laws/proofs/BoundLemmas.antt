@@ -9,7 +9,7 @@ use Rattle.catalog.specs.Contents.{Contents, IsLawful}
 use Rattle.catalog.specs.Range.{type_in}
 use Rattle.eq_classes.specs.Clauses.{ClassTable}
 use Rattle.eq_classes.specs.Holding.{IsClassTable}
-use Rattle.path_cost.specs.Columns.{IsOver, is_column_in}
+use Rattle.path_cost.specs.work.Columns.{IsOver, is_column_in}
 use Rattle.sql_lex.specs.declared.tokens.Token.{Token}
 use Rattle.sql_grammar.specs.FromParts.{groups_after}
 use Rattle.sql_grammar.specs.Syntax.{Group, Mark, OrderBy, select_from, Where, no_where, where_expr, WindowTree, WindowedSelect, windowed_select}
@@ -23,7 +23,7 @@ use Rattle.query_reader.specs.Binding.{Bound, bound_from, bound_over, bound_part
 use Rattle.query_reader.specs.From.{Joined, nothing_joined, with_groups}
 use Rattle.query_reader.specs.Order.{order_items}
 use Rattle.query_reader.specs.Scope.{scope_of}
-use Rattle.query_reader.specs.Select.{IsBoundByItself}
+use Rattle.query_reader.specs.work.Select.{IsBoundByItself}
 use Rattle.query_reader.specs.Windows.{window_of}
 use Rattle.query_reader.specs.Written.{item_of, items_of}
 use Rattle.query_reader.proofs.AliasLemmas.{HasNames, after-words, all-named, before-words}

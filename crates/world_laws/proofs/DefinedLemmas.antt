@@ -18,16 +18,16 @@ use Rattle.expr_reader.proofs.Named.{AreNamed, named-from}
 use Rattle.query_reader.proofs.AliasLemmas.{before-words}
 use Rattle.ddl_reader.proofs.SoundStatisticsLemmas.{AreWithin, within-all}
 use Rattle.ddl_reader.proofs.TokenLaws.{starts-within}
-use Rattle.ddl_reader.specs.Soundness.{IsSoundDefinition}
+use Rattle.ddl_reader.specs.work.Soundness.{IsSoundDefinition}
 use Rattle.ddl_reader.specs.Statements.{Means}
 use Rattle.ddl_reader.specs.Tables.{Definition, table, sizes_for, statistics_for, data_for, analysis_of, Reading}
-use Rattle.index_reader.specs.Candidates.{cand_of}
+use Rattle.index_reader.specs.work.Candidates.{cand_of}
 use Rattle.index_reader.specs.Meaning.{IndexMeant, meaning_of_index, meaning_of_cand}
 use Rattle.index_reader.proofs.CandLemmas.{behind-two}
 use Rattle.sql_query.specs.Worlds.{World}
 use Rattle.store.specs.Actions.{Action, build}
-use Rattle.world_laws.specs.Definitions.{Comes}
-use Rattle.world_laws.specs.LawfulWorlds.{MayBeDone}
+use Rattle.world_laws.specs.work.Definitions.{Comes}
+use Rattle.world_laws.specs.work.LawfulWorlds.{MayBeDone}
 use Rattle.ddl_reader.proofs.SoundLemmas.{meaning-sound}
 use Rattle.index_reader.proofs.SoundLemmas.{cand-sound}
 

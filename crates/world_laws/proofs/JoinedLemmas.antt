@@ -14,12 +14,13 @@ use Rattle.eq_classes.proofs.ListLemmas.{all_at, all_from}
 use Rattle.catalog.specs.Contents.{Contents, IsLawful, IsTable, no_table}
 use Rattle.catalog.specs.Range.{Range, type_in}
 use Rattle.catalog.specs.Tables.{table_named}
-use Rattle.path_cost.specs.Columns.{IsOver, is_column_in}
+use Rattle.path_cost.specs.work.Columns.{IsOver, is_column_in}
 use Rattle.sql_grammar.specs.Syntax.{Expr, Group, group_of, Join, join_on, cross_join}
 use Rattle.expr_reader.specs.Conditions.{meaning_of_expr, next}
 use Rattle.expr_reader.proofs.TypedLemmas.{expr-good, next-done}
 use Rattle.ddl_reader.proofs.SoundStatisticsLemmas.{known-table}
-use Rattle.query_reader.specs.From.{AreRelations, Joined, alias_or, conjuncts_of_expr, is_taken, nothing_joined, of_table, with_condition, with_group, with_groups, with_join, with_joins, with_relation}
+use Rattle.query_reader.specs.From.{Joined, alias_or, conjuncts_of_expr, is_taken, nothing_joined, of_table, with_condition, with_group, with_groups, with_join, with_joins, with_relation}
+use Rattle.query_reader.specs.work.From.{AreRelations}
 use Rattle.query_reader.specs.Scope.{scope_after}
 use Rattle.query_reader.specs.Written.{source_of}
 use Rattle.query_reader.specs.declared.written.Source.{Source}

@@ -1,2 +1,2 @@
 pub mod LawfulWorlds
-pub mod Definitions
+pub mod work

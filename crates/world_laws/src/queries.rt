@@ -11,7 +11,7 @@ ghost use Rattle.sql_grammar.specs.Words.{words_of_windowed};
 ghost use Rattle.expr_reader.proofs.Named.{AreNamed};
 ghost use Rattle.sql_query.specs.WellBound.{given_of};
 ghost use Rattle.query_reader.specs.Binding.{Bound, bound_part, query_with};
-ghost use Rattle.query_reader.specs.Select.{IsBoundByItself};
+ghost use Rattle.query_reader.specs.work.Select.{IsBoundByItself};
 
 /// What a SELECT means over a lawful catalogue is a well bound query with its own classes, where its words that are names keep the
 /// limit of a name.

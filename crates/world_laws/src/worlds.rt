@@ -12,8 +12,9 @@ ghost use Rattle.store.specs.Actions.{Action, after, build};
 ghost use Rattle.ddl_reader.specs.Statements.{Means};
 ghost use Rattle.ddl_reader.specs.Tables.{Reading};
 ghost use Rattle.index_reader.specs.Meaning.{IndexMeant, meaning_of_index};
-ghost use Rattle.world_laws.specs.Definitions.{Comes};
-ghost use Rattle.world_laws.specs.LawfulWorlds.{IsLawfulWorld, MayBeDone};
+ghost use Rattle.world_laws.specs.work.Definitions.{Comes};
+ghost use Rattle.world_laws.specs.LawfulWorlds.{IsLawfulWorld};
+ghost use Rattle.world_laws.specs.work.LawfulWorlds.{MayBeDone};
 
 /// A lawful world is left lawful by whatever may be done in it.
 pub fn actions_keep_worlds_lawful()

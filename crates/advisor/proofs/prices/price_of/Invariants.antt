@@ -1,6 +1,6 @@
 use Rattle.std.proofs.Common.{◌≡◌}
-use Rattle.advisor.specs.Choices.{IsPart}
-use Rattle.advisor.specs.Memos.{AreBelow, IsMemo}
+use Rattle.advisor.specs.work.Choices.{IsPart}
+use Rattle.advisor.specs.work.Memos.{AreBelow, IsMemo}
 use Rattle.advisor.proofs.prices.price_of.Given as goal
 
 abbrev pub invariant-loop-n : goal.invariant-loop-n

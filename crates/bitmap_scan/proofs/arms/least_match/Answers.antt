@@ -1,11 +1,11 @@
 use Rattle.std.proofs.Common.{◌≡◌, ◌∙◌, ◌+◌, true, ap, sym, drop, subst, true≢false, List}
 use Rattle.pg_base.specs.declared.numbers.IndexNo.{IndexNo}
 use Rattle.catalog.specs.Contents.{indexes_of}
-use Rattle.pg_expr.specs.View.{cond}
-use Rattle.cost_rules.specs.Costs.{capped}
+use Rattle.pg_expr.specs.work.View.{cond}
+use Rattle.cost_rules.specs.work.Costs.{capped}
 use Rattle.plan_tree.specs.Bitmaps.{MatchesArm}
 use Rattle.plan_tree.proofs.ElementLemmas.{is-listed, listed-on}
-use Rattle.bitmap_scan.specs.Arms.{part_for}
+use Rattle.bitmap_scan.specs.work.Arms.{part_for}
 use Rattle.bitmap_scan.proofs.ArmLemmas.{BestSoFar, best-found, best-none, best-passed, best-taken}
 use Rattle.bitmap_scan.proofs.arms.least_match.Goals as goal
 use Rattle.bitmap_scan.proofs.arms.least_match.Goals.{then-matches_arm, else-matches_arm}

@@ -1,8 +1,8 @@
 use Rattle.std.proofs.Common.{drop}
-use Rattle.pg_expr.specs.View.{cond}
-use Rattle.cost_rules.specs.Costs.{capped}
+use Rattle.pg_expr.specs.work.View.{cond}
+use Rattle.cost_rules.specs.work.Costs.{capped}
 use Rattle.plan_tree.specs.Bitmaps.{MatchesArm}
-use Rattle.bitmap_scan.specs.Arms.{part_for}
+use Rattle.bitmap_scan.specs.work.Arms.{part_for}
 use Rattle.bitmap_scan.proofs.ArmLemmas.{BestSoFar}
 use Rattle.bitmap_scan.proofs.arms.least_match.Given as goal
 

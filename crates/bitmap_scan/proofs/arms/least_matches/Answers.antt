@@ -2,10 +2,10 @@ use Rattle.std.proofs.Common.{◌≡◌, ◌∙◌, ◌++◌, ◌∷◌, [], Lis
 use Rattle.std.proofs.lemmas.List.{map-append, take_more}
 use Rattle.pg_base.specs.declared.numbers.IndexNo.{IndexNo}
 use Rattle.pg_expr.specs.Cond.{Cond}
-use Rattle.pg_expr.specs.View.{cond}
+use Rattle.pg_expr.specs.work.View.{cond}
 use Rattle.pg_expr.specs.declared.expr.Expr.{Expr}
 use Rattle.plan_tree.specs.Bitmaps.{MatchesArm}
-use Rattle.bitmap_scan.specs.Arms.{AreServed}
+use Rattle.bitmap_scan.specs.work.Arms.{AreServed}
 use Rattle.bitmap_scan.proofs.ArmLemmas.{served-more}
 use Rattle.bitmap_scan.proofs.arms.least_matches.Goals as goal
 

@@ -1,6 +1,6 @@
 use Rattle.std.proofs.Common.{map, take}
-use Rattle.pg_expr.specs.View.{cond}
-use Rattle.bitmap_scan.specs.Arms.{AreServed}
+use Rattle.pg_expr.specs.work.View.{cond}
+use Rattle.bitmap_scan.specs.work.Arms.{AreServed}
 use Rattle.bitmap_scan.proofs.arms.least_matches.Given as goal
 
 abbrev pub invariant-loop-arm : goal.invariant-loop-arm

@@ -1,5 +1,5 @@
 use Rattle.std.proofs.Common.{◌≡◌, ◌++◌, drop, map}
-use Rattle.bitmap_scan.specs.Chosen.{marked}
+use Rattle.bitmap_scan.specs.work.Chosen.{marked}
 use Rattle.bitmap_scan.proofs.chosen.chosen_by.Given as goal
 
 abbrev pub invariant-loop-k : goal.invariant-loop-k

@@ -1,8 +1,8 @@
 use Rattle.std.proofs.Common.{◌≤◌, ◌∙◌, List, ap, map, length, arith}
 use Rattle.std.proofs.lemmas.List.{length-map}
 use Rattle.plan_tree.specs.Plans.{BitTree, all_hold}
-use Rattle.plan_tree.specs.Views.{trees_of}
-use Rattle.bitmap_scan.specs.ElementTrees.{tree_in}
+use Rattle.plan_tree.specs.work.Views.{trees_of}
+use Rattle.bitmap_scan.specs.work.ElementTrees.{tree_in}
 use Rattle.bitmap_scan.proofs.ElementLemmas.{and-is}
 use Rattle.bitmap_scan.proofs.KeptLemmas.{all-taken, combined-many}
 use Rattle.bitmap_scan.proofs.chosen.combine.Goals as goal

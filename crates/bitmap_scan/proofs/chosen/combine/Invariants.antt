@@ -1,6 +1,6 @@
 use Rattle.std.proofs.Common.{◌≡◌, map, take}
-use Rattle.plan_tree.specs.Views.{bits}
-use Rattle.bitmap_scan.specs.ElementTrees.{tree_in}
+use Rattle.plan_tree.specs.work.Views.{bits}
+use Rattle.bitmap_scan.specs.work.ElementTrees.{tree_in}
 use Rattle.bitmap_scan.proofs.chosen.combine.Given as goal
 
 abbrev pub invariant-loop-k : goal.invariant-loop-k

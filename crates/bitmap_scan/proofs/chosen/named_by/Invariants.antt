@@ -1,7 +1,7 @@
 use Rattle.std.proofs.Common.{◌≡◌, ◌||◌, ℕ, drop}
 use Rattle.pg_base.specs.Sets.{has}
-use Rattle.bitmap_scan.specs.Chosen.{marked}
-use Rattle.bitmap_scan.specs.ElementTrees.{named_in}
+use Rattle.bitmap_scan.specs.work.Chosen.{marked}
+use Rattle.bitmap_scan.specs.work.ElementTrees.{named_in}
 use Rattle.bitmap_scan.proofs.chosen.named_by.Given as goal
 
 -- what the rest names, with what those so far do, is all

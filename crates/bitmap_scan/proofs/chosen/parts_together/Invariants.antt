@@ -1,5 +1,5 @@
 use Rattle.std.proofs.Common.{◌≡◌, map, take}
-use Rattle.cost_rules.specs.Costs.{capped}
+use Rattle.cost_rules.specs.work.Costs.{capped}
 use Rattle.plan_tree.specs.Costs.{together}
 use Rattle.bitmap_scan.proofs.chosen.parts_together.Given as goal
 

@@ -1,6 +1,6 @@
 use Rattle.std.proofs.Common.{◌≡◌, ◌&&◌, ℕ, nat_lt}
 use Rattle.std.specs.List.{list_any}
-use Rattle.pg_expr.specs.AtomSets.{contains}
+use Rattle.pg_expr.specs.work.AtomSets.{contains}
 use Rattle.bitmap_scan.proofs.chosen.used_by.Given as goal
 
 abbrev pub invariant-loop-n : goal.invariant-loop-n

@@ -2,12 +2,12 @@ use Rattle.std.proofs.Common.{rules, ◌≡◌, ◌∙◌, ap, map, subst, sym}
 use Rattle.std.proofs.lemmas.List.Elements.{All-from_recursion}
 use Rattle.pg_base.specs.declared.numbers.IndexNo.{IndexNo}
 use Rattle.pg_expr.specs.Cond.{Cond}
-use Rattle.pg_expr.specs.View.{cond}
+use Rattle.pg_expr.specs.work.View.{cond}
 use Rattle.index_match.specs.Arms.{arms_of}
 use Rattle.eq_classes.proofs.ConditionLemmas.{listed_conds}
 use Rattle.plan_tree.specs.Bitmaps.{MatchesArm, by_clause, condition_at}
 use Rattle.plan_tree.specs.Plans.{some_arm}
-use Rattle.plan_tree.specs.Views.{bits}
+use Rattle.plan_tree.specs.work.Views.{bits}
 use Rattle.plan_tree.specs.declared.bits.BitTree.{Or}
 use Rattle.plan_tree.specs.declared.bits.BitTree.TheViews.{the_lemmas}
 use Rattle.plan_tree.specs.declared.bits.BitTree.TheVariants.{rolls-Or}
@@ -16,7 +16,7 @@ use Rattle.plan_tree.proofs.ElementLemmas.{matched-or}
 use Rattle.plan_tree.proofs.FrontLemmas.{all-sources}
 use Rattle.bitmap_scan.proofs.ArmLemmas.{clause-least, clause-part}
 use Rattle.bitmap_scan.proofs.KeptLemmas.{kept-of, only-within}
-use Rattle.bitmap_scan.specs.Chosen.{IsLeastTree}
+use Rattle.bitmap_scan.specs.work.Chosen.{IsLeastTree}
 use Rattle.bitmap_scan.proofs.elements.keep_clause.Goals as goal
 
 pub least_matches-requires-clause-few : goal.least_matches-requires-clause-few

@@ -2,7 +2,7 @@ use Rattle.std.proofs.Common.{rules, ◌≡◌, ◌∙◌, sym}
 use Rattle.pg_base.specs.Sets.{has}
 use Rattle.index_match.proofs.PartLemmas.{conditions_local}
 use Rattle.plan_tree.specs.Plans.{leaf}
-use Rattle.plan_tree.specs.Views.{bits}
+use Rattle.plan_tree.specs.work.Views.{bits}
 use Rattle.plan_tree.specs.declared.bits.BitTree.{Leaf}
 use Rattle.plan_tree.specs.declared.bits.BitTree.TheViews.{the_lemmas}
 use Rattle.plan_tree.specs.declared.bits.BitTree.TheVariants.{rolls-Leaf}

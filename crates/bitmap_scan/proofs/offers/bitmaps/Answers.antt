@@ -3,11 +3,11 @@ use Rattle.std.specs.List.{AllZip, items_where_true}
 use Rattle.std.proofs.lemmas.List.{length-map}
 use Rattle.plan_tree.specs.Bitmaps.{Element, MOST_ELEMENTS}
 use Rattle.plan_tree.specs.Plans.{BitTree}
-use Rattle.plan_tree.specs.Views.{element, path}
+use Rattle.plan_tree.specs.work.Views.{element, path}
 use Rattle.std.specs.Prelude.{All}
-use Rattle.bitmap_scan.specs.Chosen.{IsLeastTree, marked}
+use Rattle.bitmap_scan.specs.work.Chosen.{IsLeastTree, marked}
 use Rattle.bitmap_scan.specs.declared.element_tree.ElementTree.{ElementTree}
-use Rattle.bitmap_scan.specs.ElementTrees.{IsKept, tree_in}
+use Rattle.bitmap_scan.specs.work.ElementTrees.{IsKept, tree_in}
 use Rattle.bitmap_scan.proofs.MarkedLemmas.{marked-zip}
 use Rattle.pg_base.proofs.ListLemmas.{zip-length}
 use Rattle.bitmap_scan.proofs.OfferLemmas.{one-offered}

@@ -3,17 +3,17 @@ use Rattle.std.proofs.lemmas.List.{length-map}
 use Rattle.std.proofs.lemmas.Result.{on_ok_weaker}
 use Rattle.pg_base.specs.Sets.{has}
 use Rattle.eq_classes.specs.Clauses.{one}
-use Rattle.pg_expr.specs.AtomSets.{contains}
-use Rattle.cost_rules.specs.Costs.{capped_pair}
+use Rattle.pg_expr.specs.work.AtomSets.{contains}
+use Rattle.cost_rules.specs.work.Costs.{capped_pair}
 use Rattle.path_cost.specs.Costs.{bitmap_cost}
 use Rattle.plan_tree.specs.Costs.{cost}
-use Rattle.plan_tree.specs.Fronts.{HasDominating, is_bitmap}
+use Rattle.plan_tree.specs.work.Fronts.{HasDominating, is_bitmap}
 use Rattle.plan_tree.specs.Least.{IsAdmissible}
 use Rattle.plan_tree.specs.Plans.{BitTree, bitmap}
 use Rattle.plan_tree.specs.Space.{IsPlanOf}
-use Rattle.plan_tree.specs.Views.{path}
-use Rattle.bitmap_scan.specs.Chosen.{combined}
-use Rattle.bitmap_scan.specs.ElementTrees.{HasCheaper, tree_in}
+use Rattle.plan_tree.specs.work.Views.{path}
+use Rattle.bitmap_scan.specs.work.Chosen.{combined}
+use Rattle.bitmap_scan.specs.work.ElementTrees.{HasCheaper, tree_in}
 use Rattle.plan_tree.proofs.BoundLemmas.{lawful-rows}
 use Rattle.plan_tree.specs.declared.path.Path.{Path as Costed}
 use Rattle.bitmap_scan.proofs.OfferLemmas.{cheaper-dominates}

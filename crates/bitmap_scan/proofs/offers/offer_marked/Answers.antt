@@ -2,13 +2,13 @@ use Rattle.std.proofs.Common.{◌∙◌, List, map, refl, subst, sym, true≢fal
 use Rattle.std.proofs.lemmas.Result.{on_ok_weaker}
 use Rattle.pg_base.specs.Sets.{has}
 use Rattle.eq_classes.specs.Clauses.{one}
-use Rattle.plan_tree.specs.Fronts.{HasDominating}
+use Rattle.plan_tree.specs.work.Fronts.{HasDominating}
 use Rattle.plan_tree.specs.Least.{IsAdmissible}
 use Rattle.plan_tree.specs.Plans.{BitTree, bitmap}
 use Rattle.plan_tree.specs.Space.{IsPlanOf}
-use Rattle.plan_tree.specs.Views.{path}
-use Rattle.bitmap_scan.specs.Chosen.{AreChosen, combined}
-use Rattle.bitmap_scan.specs.ElementTrees.{IsKept}
+use Rattle.plan_tree.specs.work.Views.{path}
+use Rattle.bitmap_scan.specs.work.Chosen.{AreChosen, combined}
+use Rattle.bitmap_scan.specs.work.ElementTrees.{IsKept}
 use Rattle.bitmap_scan.proofs.KeptLemmas.{marked-each, marked-trees, named-together}
 use Rattle.bitmap_scan.proofs.offers.offer_marked.Goals as goal
 

@@ -1,5 +1,5 @@
 use Rattle.std.proofs.Common.{All, map, take}
-use Rattle.catalog.specs.Known.{statistics}
+use Rattle.catalog.specs.work.Known.{statistics}
 use Rattle.catalog.specs.Statistics.{AreAllowed}
 use Rattle.catalog.proofs.sizes.refused_column.Given as goal
 

@@ -1,5 +1,5 @@
 use Rattle.std.proofs.Common.{◌∙◌, sym, arith}
-use Rattle.catalog.specs.Entries.{statistics}
+use Rattle.catalog.specs.work.Entries.{statistics}
 use Rattle.catalog.proofs.StatisticsLemmas.{all-allowed, clean-more}
 use Rattle.catalog.proofs.statistics.first_refused.Goals as goal
 

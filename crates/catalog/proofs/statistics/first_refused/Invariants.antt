@@ -1,5 +1,5 @@
 use Rattle.std.proofs.Common.{◌≡◌, ◌<◌, ℕ, false}
-use Rattle.catalog.specs.Entries.{statistics}
+use Rattle.catalog.specs.work.Entries.{statistics}
 use Rattle.catalog.specs.Statistics.{is_refused}
 use Rattle.catalog.proofs.statistics.first_refused.Given as goal
 

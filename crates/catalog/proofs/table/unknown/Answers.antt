@@ -1,6 +1,6 @@
 use Rattle.std.proofs.Common.{◌∙◌, ap, arith, length, map}
 use Rattle.std.specs.Option.{option_map}
-use Rattle.catalog.specs.Entries.{statistics}
+use Rattle.catalog.specs.work.Entries.{statistics}
 use Rattle.catalog.specs.Indexes.{no_column}
 use Rattle.catalog.proofs.NamedLemmas.{unknown-more}
 use Rattle.catalog.proofs.table.unknown.Goals as goal

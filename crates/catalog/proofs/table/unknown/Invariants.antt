@@ -1,7 +1,7 @@
 use Rattle.std.proofs.Common.{◌≡◌, map, take}
 use Rattle.std.specs.Option.{option_map}
 use Rattle.catalog.specs.Contents.{unknown as all_unknown}
-use Rattle.catalog.specs.Entries.{statistics}
+use Rattle.catalog.specs.work.Entries.{statistics}
 use Rattle.catalog.proofs.table.unknown.Given as goal
 
 abbrev pub invariant-loop : goal.invariant-loop

@@ -1,4 +1,5 @@
-use Rattle.plan_check.specs.Views.{certificate, side}
+use Rattle.plan_check.specs.Views.{side}
+use Rattle.plan_check.specs.work.Views.{certificate}
 use Rattle.certificate_check.proofs.LeastLemmas.{some-better, this-side}
 use Rattle.cost_rules.proofs.WorseLemmas.{no-worse-self}
 use Rattle.certificate_check.proofs.best.better_side.Goals as goal

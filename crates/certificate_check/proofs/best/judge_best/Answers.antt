@@ -1,6 +1,7 @@
 use Rattle.std.proofs.Common.{◌∙◌, sym}
 use Rattle.std.proofs.lemmas.Bool.{false≢true}
-use Rattle.plan_check.specs.Views.{certificate, side}
+use Rattle.plan_check.specs.Views.{side}
+use Rattle.plan_check.specs.work.Views.{certificate}
 use Rattle.certificate_check.proofs.CostLemmas.{rows-all}
 use Rattle.certificate_check.proofs.LeastLemmas.{best-least, not-best}
 use Rattle.certificate_check.proofs.best.judge_best.Goals as goal

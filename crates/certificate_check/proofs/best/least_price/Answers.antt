@@ -1,5 +1,5 @@
 use Rattle.std.proofs.Common.{arith, refl}
-use Rattle.plan_check.specs.Views.{certificate}
+use Rattle.plan_check.specs.work.Views.{certificate}
 use Rattle.entry_check.proofs.BestLemmas.{read-count}
 use Rattle.certificate_check.proofs.LeastLemmas.{least-all, least-first, least-next}
 use Rattle.certificate_check.proofs.best.least_price.Goals as goal

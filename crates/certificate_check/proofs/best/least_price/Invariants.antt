@@ -1,4 +1,4 @@
-use Rattle.plan_check.specs.Views.{certificate}
+use Rattle.plan_check.specs.work.Views.{certificate}
 use Rattle.certificate_check.proofs.LeastLemmas.{IsLeastBefore}
 use Rattle.certificate_check.proofs.best.least_price.Given as goal
 

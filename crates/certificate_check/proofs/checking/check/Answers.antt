@@ -1,7 +1,7 @@
 use Rattle.std.proofs.Common.{List, length, refl, subst, sym}
 use Rattle.plan_tree.proofs.BoundLemmas.{lawful-rows}
-use Rattle.plan_check.specs.Ranking.{AreRanked}
-use Rattle.plan_check.specs.Views.{certificate}
+use Rattle.plan_check.specs.work.Ranking.{AreRanked}
+use Rattle.plan_check.specs.work.Views.{certificate}
 use Rattle.plan_check.specs.declared.entry.Entry.{Entry as Entered}
 use Rattle.certificate_check.proofs.CheckLemmas.{placed-there, valid-best, valid-dominated, valid-sorted}
 use Rattle.certificate_check.proofs.checking.check.Goals as goal

@@ -1,4 +1,4 @@
-use Rattle.plan_check.specs.Views.{certificate}
+use Rattle.plan_check.specs.work.Views.{certificate}
 use Rattle.certificate_check.proofs.CheckLemmas.{valid}
 use Rattle.certificate_check.proofs.checking.judge_whole.Goals as goal
 

@@ -1,4 +1,4 @@
-use Rattle.plan_check.specs.Views.{certificate}
+use Rattle.plan_check.specs.work.Views.{certificate}
 use Rattle.certificate_check.proofs.CheckLemmas.{covered}
 use Rattle.certificate_check.proofs.cover.open_candidate.Goals as goal
 

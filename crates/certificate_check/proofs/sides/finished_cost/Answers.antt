@@ -1,5 +1,5 @@
 use Rattle.plan_tree.proofs.BoundLemmas.{lawful-rows}
-use Rattle.plan_check.specs.Views.{entry}
+use Rattle.plan_check.specs.work.Views.{entry}
 use Rattle.certificate_check.proofs.CostLemmas.{cost-most, kept-under, plain-kept, sorted-kept, start-most}
 use Rattle.certificate_check.proofs.sides.finished_cost.Goals as goal
 

@@ -1,4 +1,5 @@
-use Rattle.plan_check.specs.Views.{certificate, entry, side}
+use Rattle.plan_check.specs.Views.{side}
+use Rattle.plan_check.specs.work.Views.{certificate, entry}
 use Rattle.certificate_check.proofs.CostLemmas.{side-priced}
 use Rattle.certificate_check.proofs.sides.price_of_side.Goals as goal
 

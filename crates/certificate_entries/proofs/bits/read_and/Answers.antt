@@ -4,7 +4,7 @@ use Rattle.std.proofs.lemmas.List.{length-map}
 use Rattle.std.specs.Prelude.{All, Some}
 use Rattle.certificate_text.specs.explain_Texts.{with_commas}
 use Rattle.plan_tree.specs.Plans.{BitTree, all_hold}
-use Rattle.plan_tree.specs.Views.{bits, trees_of}
+use Rattle.plan_tree.specs.work.Views.{bits, trees_of}
 use Rattle.plan_tree.proofs.PricingLemmas.{and-bits}
 use Rattle.certificate_text.specs.HasText.{HasBitsText, HasElementText}
 use Rattle.certificate_entries.proofs.ElementLemmas.{and-has, held-has, held-is, held-none, in_list, in_list-back, in_list-has, in_list-long, in_list-texts}

@@ -1,6 +1,6 @@
 use Rattle.std.proofs.Common.{arith, refl, sym}
 use Rattle.std.proofs.lemmas.Bool.{true≢false}
-use Rattle.pathkeys.specs.Finding.{class_numbers}
+use Rattle.pathkeys.specs.work.Finding.{class_numbers}
 use Rattle.certificate_entries.proofs.DifferentLemmas.{all-different, more-different, twice}
 use Rattle.certificate_entries.proofs.keys.are_different.Goals as goal
 

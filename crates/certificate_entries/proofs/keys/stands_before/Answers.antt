@@ -1,6 +1,6 @@
 use Rattle.std.proofs.Common.{◌∙◌, sym}
 use Rattle.std.proofs.lemmas.Bool.{true≢false}
-use Rattle.pathkeys.specs.Finding.{class_numbers}
+use Rattle.pathkeys.specs.work.Finding.{class_numbers}
 use Rattle.certificate_entries.proofs.DifferentLemmas.{one-more}
 use Rattle.certificate_entries.proofs.keys.stands_before.Goals as goal
 

@@ -1,5 +1,5 @@
 use Rattle.std.proofs.Common.{◌≢◌, ◌<◌, ℕ, get_or}
-use Rattle.pathkeys.specs.Finding.{class_numbers}
+use Rattle.pathkeys.specs.work.Finding.{class_numbers}
 use Rattle.certificate_entries.proofs.keys.stands_before.Given as goal
 
 abbrev pub invariant-loop-i : goal.invariant-loop-i

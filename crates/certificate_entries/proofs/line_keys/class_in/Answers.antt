@@ -6,7 +6,7 @@ use Rattle.pg_expr.specs.declared.operand.ColRef.{ColRef}
 use Rattle.pg_value.specs.declared.operators.Family.{Family}
 use Rattle.sql_query.specs.Queries.{Query}
 use Rattle.eq_classes.specs.Clauses.{ClassTable}
-use Rattle.certificate_entries.specs.Keys.{IsClassIn}
+use Rattle.certificate_entries.specs.work.Keys.{IsClassIn}
 use Rattle.certificate_entries.proofs.ClassLemmas.{class-found, class-none}
 use Rattle.certificate_entries.proofs.line_keys.class_in.Goals as goal
 

@@ -1,6 +1,6 @@
 use Rattle.std.proofs.Common.{◌∷◌, ◌++◌, ◌∙◌, arith, refl}
 use Rattle.std.proofs.lemmas.List.{append_assoc}
-use Rattle.certificate_entries.specs.Keys.{family_if}
+use Rattle.certificate_entries.specs.work.Keys.{family_if}
 use Rattle.certificate_entries.proofs.KeyLemmas.{family-read, stops-family}
 use Rattle.certificate_entries.proofs.line_keys.read_words.Goals as goal
 

@@ -1,7 +1,7 @@
 use Rattle.std.proofs.Common.{◌++◌, refl}
 use Rattle.std.specs.Prelude.{None}
 use Rattle.pg_base.proofs.OptionLemmas.{none-some-too as none-some}
-use Rattle.certificate_entries.specs.Kinds.{behind_text, kind_of}
+use Rattle.certificate_entries.specs.work.Kinds.{behind_text, kind_of}
 use Rattle.certificate_entries.proofs.NodeLemmas.{behind-words, node-behind}
 use Rattle.certificate_entries.proofs.nodes.read_node.Goals as goal
 

@@ -1,5 +1,5 @@
 use Rattle.std.proofs.Common.{◌∙◌, ap, arith}
-use Rattle.certificate_entries.specs.Parts.{as_entry}
+use Rattle.certificate_entries.specs.work.Parts.{as_entry}
 use Rattle.certificate_entries.proofs.NumberLemmas.{entry-is}
 use Rattle.certificate_entries.proofs.numbers.read_entry_number.Goals as goal
 

@@ -4,9 +4,11 @@ use Rattle.std.proofs.lemmas.Bool.Decides.{nat_tests}
 use Rattle.std.proofs.lemmas.List.{length-map}
 use Rattle.sql_query.specs.declared.window.Window.{Window}
 use Rattle.plan_check.specs.Certificates.{Entry}
-use Rattle.plan_check.specs.Views.{entry, side}
+use Rattle.plan_check.specs.Views.{side}
+use Rattle.plan_check.specs.work.Views.{entry}
 use Rattle.certificate_reader.specs.Faults.{IsFaultLine, IsCertificateText}
-use Rattle.certificate_reader.specs.Reading.{IsBlockRead, head_lines}
+use Rattle.certificate_reader.specs.Reading.{IsBlockRead}
+use Rattle.certificate_reader.specs.work.Reading.{head_lines}
 use Rattle.certificate_reader.proofs.PlainLemmas.{plain-line}
 use Rattle.certificate_reader.proofs.ReadingLemmas.{best-behind, best-read, fault-is-none, few-entries, few-heads}
 use Rattle.certificate_reader.proofs.block.ended_by.Goals as goal

@@ -1,9 +1,9 @@
 use Rattle.std.proofs.Common.{◌≡◌, ◌≤◌, ◌+◌, ℕ, List, [], length, map, sym, ap, subst, ◌∙◌, arith, Ok, Err}
 use Rattle.std.proofs.lemmas.List.{length-map}
-use Rattle.plan_check.specs.Views.{entry}
-use Rattle.certificate_entries.specs.Reading.{IsBad, IsEntryRead, IsRead}
+use Rattle.plan_check.specs.work.Views.{entry}
+use Rattle.certificate_entries.specs.work.Reading.{IsBad, IsEntryRead, IsRead}
 use Rattle.certificate_reader.specs.Faults.{IsFaultLine}
-use Rattle.certificate_reader.specs.Reading.{IsReadSoFar, head_lines}
+use Rattle.certificate_reader.specs.work.Reading.{IsReadSoFar, head_lines}
 use Rattle.certificate_reader.proofs.PlainLemmas.{plain-line}
 use Rattle.certificate_reader.proofs.ReadingLemmas.{bad-line, entry-read, fault-is-none, few-entries, no-line, nothing-read}
 use Rattle.certificate_reader.proofs.block.read_lines.Goals as goal

@@ -1,6 +1,6 @@
 use Rattle.std.proofs.Common.{length, map}
-use Rattle.plan_check.specs.Views.{entry}
-use Rattle.certificate_reader.specs.Reading.{IsReadSoFar}
+use Rattle.plan_check.specs.work.Views.{entry}
+use Rattle.certificate_reader.specs.work.Reading.{IsReadSoFar}
 use Rattle.certificate_reader.proofs.block.read_lines.Given as goal
 
 abbrev pub invariant-loop-line : goal.invariant-loop-line

@@ -1,6 +1,6 @@
 use Rattle.std.proofs.Common.{◌≡◌, ◌++◌, [], codes, cond, drop}
 use Rattle.explain.specs.Texts.{with_commas}
-use Rattle.plan_tree.specs.Views.{bits_all}
+use Rattle.plan_tree.specs.work.Views.{bits_all}
 use Rattle.certificate_text.specs.HasText.{HaveElementTexts}
 use Rattle.certificate_text.specs.Texts.{tree_texts}
 use Rattle.certificate_text.proofs.bits.put_elements.Given as goal

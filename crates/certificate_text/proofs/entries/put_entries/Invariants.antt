@@ -1,5 +1,5 @@
 use Rattle.std.proofs.Common.{◌≡◌, ◌++◌, ◌+◌, drop, map}
-use Rattle.plan_check.specs.Views.{entry}
+use Rattle.plan_check.specs.work.Views.{entry}
 use Rattle.certificate_text.specs.Texts.{entries_text}
 use Rattle.certificate_text.proofs.entries.put_entries.Given as goal
 

@@ -1,5 +1,5 @@
 use Rattle.std.proofs.lemmas.Result.{on_ok_weaker}
-use Rattle.pathkeys.specs.Finding.{class_numbers}
+use Rattle.pathkeys.specs.work.Finding.{class_numbers}
 use Rattle.certificate_text.proofs.NodeLemmas.{merge-text}
 use Rattle.certificate_text.proofs.nodes.put_node.Goals as goal
 

@@ -1,6 +1,6 @@
 use Rattle.std.proofs.Common.{subst}
 use Rattle.std.proofs.lemmas.Result.{IfOk-weaker}
-use Rattle.certificate_reader.specs.Reading.{IsFault}
+use Rattle.certificate_reader.specs.work.Reading.{IsFault}
 use Rattle.check_reply.specs.Checked.{faulty}
 use Rattle.check_reply.proofs.checked.check_text.Goals as goal
 

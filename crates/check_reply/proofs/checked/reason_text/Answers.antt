@@ -1,6 +1,6 @@
 use Rattle.std.proofs.Common.{subst, sym}
 use Rattle.std.specs.Prelude.{IfOk}
-use Rattle.plan_check.specs.Views.{certificate}
+use Rattle.plan_check.specs.work.Views.{certificate}
 use Rattle.plan_check.specs.declared.verdict.Reason.{Reason}
 use Rattle.check_reply.specs.Checked.{IsReasonText}
 use Rattle.check_reply.proofs.checked.reason_text.Goals as goal

@@ -1,6 +1,6 @@
 use Rattle.std.proofs.Common.{◌∙◌, ap, map}
-use Rattle.bitmap_scan.specs.Chosen.{combined}
-use Rattle.plan_tree.specs.Views.{bits, element}
+use Rattle.bitmap_scan.specs.work.Chosen.{combined}
+use Rattle.plan_tree.specs.work.Views.{bits, element}
 use Rattle.check_reply.proofs.ShapeLemmas.{bitmap-tells}
 use Rattle.check_reply.proofs.shapes.bitmap_shape.Goals as goal
 

@@ -1,6 +1,6 @@
 use Rattle.std.proofs.Common.{subst, sym}
 use Rattle.plan_check.specs.Certificates.{Node}
-use Rattle.check_reply.specs.Telling.{Tells}
+use Rattle.check_reply.specs.work.Telling.{Tells}
 use Rattle.check_reply.proofs.ShapeLemmas.{index-tells}
 use Rattle.check_reply.proofs.shapes.index_shape.Goals as goal
 

@@ -1,10 +1,11 @@
 use Rattle.std.proofs.Common.{◌≡◌, ◌∙◌, ap, cond, subst, sym}
 use Rattle.plan_check.specs.Certificates.{by_merge}
-use Rattle.plan_check.specs.Views.{certificate, entry, side}
-use Rattle.pathkeys.specs.Finding.{class_numbers}
+use Rattle.plan_check.specs.Views.{side}
+use Rattle.plan_check.specs.work.Views.{certificate, entry}
+use Rattle.pathkeys.specs.work.Finding.{class_numbers}
 use Rattle.pathkeys.specs.Keys.{Keys}
 use Rattle.plan_check.specs.Plains.{keys_in}
-use Rattle.check_reply.specs.Telling.{Tells}
+use Rattle.check_reply.specs.work.Telling.{Tells}
 use Rattle.check_reply.proofs.ShapeLemmas.{merge-tells}
 use Rattle.check_reply.proofs.shapes.merge_shape.Goals as goal
 

@@ -1,4 +1,4 @@
-use Rattle.plan_check.specs.Views.{certificate, entry}
+use Rattle.plan_check.specs.work.Views.{certificate, entry}
 use Rattle.check_reply.proofs.ShapeLemmas.{nest-tells}
 use Rattle.check_reply.proofs.shapes.nest_shape.Goals as goal
 

@@ -1,10 +1,10 @@
 use Rattle.std.proofs.Common.{subst, sym}
 use Rattle.std.specs.Prelude.{IfOk}
 use Rattle.std.proofs.lemmas.Result.{IfOk-weaker}
-use Rattle.plan_check.specs.Views.{certificate}
+use Rattle.plan_check.specs.work.Views.{certificate}
 use Rattle.plan_check.specs.declared.verdict.Plain.{Plain}
 use Rattle.certificate_check.specs.plan_laws_WellBoundLemmas.{bound-over}
-use Rattle.check_reply.specs.Telling.{IsShapeOf}
+use Rattle.check_reply.specs.work.Telling.{IsShapeOf}
 use Rattle.check_reply.proofs.ShapeLemmas.{merge-within, nest-within}
 use Rattle.check_reply.proofs.told.shape_of.Goals as goal
 

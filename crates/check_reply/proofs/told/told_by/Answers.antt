@@ -1,7 +1,7 @@
 use Rattle.std.proofs.Common.{◌≤◌, arith, ap, length, subst, sym}
 use Rattle.std.proofs.lemmas.List.{length-map}
 use Rattle.plan_check.specs.Limit.{MOST_ENTRIES}
-use Rattle.plan_check.specs.Views.{certificate, entry, node as seen}
+use Rattle.plan_check.specs.work.Views.{certificate, entry, node as seen}
 use Rattle.certificate_check.specs.certificate_text_HasText.{HasEntryLine}
 use Rattle.check_reply.specs.Checked.{IsToldBy}
 use Rattle.check_reply.proofs.TellLemmas.{told, told-line}

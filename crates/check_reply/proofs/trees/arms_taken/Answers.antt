@@ -1,8 +1,8 @@
 use Rattle.plan_tree.specs.Bitmaps.{condition_at}
-use Rattle.plan_tree.specs.Views.{element}
+use Rattle.plan_tree.specs.work.Views.{element}
 use Rattle.std.proofs.Common.{◌≡◌, length, sym, subst}
 use Rattle.plan_tree.specs.declared.elements.Element.{Element}
-use Rattle.check_reply.specs.Telling as telling
+use Rattle.check_reply.specs.work.Telling as telling
 use Rattle.check_reply.proofs.TreeLemmas.{arms-counted}
 use Rattle.check_reply.proofs.trees.arms_taken.Goals as goal
 

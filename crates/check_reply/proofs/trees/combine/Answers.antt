@@ -1,6 +1,6 @@
 use Rattle.std.proofs.Common.{◌∙◌, arith, map}
 use Rattle.std.proofs.lemmas.List.{length-map}
-use Rattle.plan_tree.specs.Views.{bits}
+use Rattle.plan_tree.specs.work.Views.{bits}
 use Rattle.bitmap_scan.proofs.ElementLemmas.{and-is}
 use Rattle.check_reply.proofs.TreeLemmas.{and-combined}
 use Rattle.check_reply.proofs.trees.combine.Goals as goal

@@ -1,5 +1,5 @@
 use Rattle.std.proofs.Common.{drop, map}
-use Rattle.plan_tree.specs.Views.{bits, element}
+use Rattle.plan_tree.specs.work.Views.{bits, element}
 use Rattle.check_reply.proofs.TreeLemmas.{IsMadeSo}
 use Rattle.check_reply.proofs.trees.trees_by.Given as goal
 

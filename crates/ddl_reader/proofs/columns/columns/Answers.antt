@@ -5,7 +5,7 @@ use Rattle.std.proofs.lemmas.Result.{err_from_is_err_and}
 use Rattle.sql_grammar.specs.declared.class.Symbol.TheVariants.{Close}
 use Rattle.sql_grammar.specs.Terminals.{t_mark}
 use Rattle.sql_grammar.specs.Words.{words_of_columns}
-use Rattle.ddl_reader.specs.AsMeant.{seen}
+use Rattle.ddl_reader.specs.work.AsMeant.{seen}
 use Rattle.ddl_reader.proofs.AnswerLemmas.{err-reads, grown}
 use Rattle.ddl_reader.proofs.ListLemmas.{first, next, at-fault, more, all-read}
 use Rattle.ddl_reader.proofs.ColumnLemmas.{column_parts, columns-end}

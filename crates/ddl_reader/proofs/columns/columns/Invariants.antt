@@ -2,7 +2,7 @@ use Rattle.std.proofs.Common.{◌≡◌, ◌<◌, List, ◌∷◌, length, map}
 use Rattle.sql_grammar.specs.Terminals.{Terminal}
 use Rattle.sql_grammar.specs.Syntax.{Mark, ColDef}
 use Rattle.ddl_reader.specs.Columns.{defined_column, further}
-use Rattle.ddl_reader.specs.AsMeant.{words_of_body, seen}
+use Rattle.ddl_reader.specs.work.AsMeant.{words_of_body, seen}
 use Rattle.ddl_reader.proofs.ListLemmas.{So}
 use Rattle.ddl_reader.proofs.ColumnLemmas.{column_parts}
 use Rattle.ddl_reader.proofs.columns.columns.Given as goal

@@ -1,7 +1,7 @@
 use Rattle.std.proofs.Common.{◌∙◌, subst, ap, length, arith, refl}
 use Rattle.sql_grammar.specs.declared.class.Word.TheVariants.{Null}
 use Rattle.sql_grammar.specs.Terminals.{t_key}
-use Rattle.expr_reader.specs.Reading.{BeginsNot}
+use Rattle.expr_reader.specs.work.Reading.{BeginsNot}
 use Rattle.ddl_reader.proofs.Parts.{neither}
 use Rattle.ddl_reader.proofs.columns.not_null.Goals as goal
 

@@ -2,7 +2,7 @@ use Rattle.std.proofs.Common.{◌≡◌, List, ◌∷◌, length}
 use Rattle.sql_grammar.specs.Terminals.{Terminal}
 use Rattle.sql_grammar.specs.Syntax.{Mark, Lit}
 use Rattle.expr_reader.specs.Lists.{further_parts}
-use Rattle.ddl_reader.specs.AsMeant.{words_of_bounds_left}
+use Rattle.ddl_reader.specs.work.AsMeant.{words_of_bounds_left}
 use Rattle.ddl_reader.proofs.ListLemmas.{So}
 use Rattle.ddl_reader.proofs.LiteralListLemmas.{bound_parts}
 use Rattle.ddl_reader.proofs.literals.bounds.Given as goal

@@ -3,7 +3,7 @@ use Rattle.std.proofs.lemmas.Result.{err_from_is_err_and}
 use Rattle.std.specs.declared.alloc.Global.{Global}
 use Rattle.ddl_reader.specs.declared.literals.CommonRead.{CommonRead}
 use Rattle.expr_reader.specs.Lists.{bound_each}
-use Rattle.ddl_reader.specs.AsMeant.{common_placed}
+use Rattle.ddl_reader.specs.work.AsMeant.{common_placed}
 use Rattle.ddl_reader.proofs.AnswerLemmas.{err-reads}
 use Rattle.ddl_reader.proofs.LiteralListLemmas.{has-shares, no-shares}
 use Rattle.ddl_reader.proofs.literals.common.Goals as goal

@@ -3,7 +3,7 @@ use Rattle.std.specs.declared.alloc.Global.{Global}
 use Rattle.sql_grammar.specs.Syntax.{Lit}
 use Rattle.expr_reader.specs.declared.value.Placed.{Placed}
 use Rattle.expr_reader.specs.Lists.{bound_each}
-use Rattle.ddl_reader.specs.AsMeant.{IsAsMeant, placed}
+use Rattle.ddl_reader.specs.work.AsMeant.{IsAsMeant, placed}
 use Rattle.ddl_reader.proofs.LiteralListLemmas.{has-bounds, no-bounds}
 use Rattle.ddl_reader.proofs.literals.histogram.Goals as goal
 

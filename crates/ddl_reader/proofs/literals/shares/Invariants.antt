@@ -3,7 +3,7 @@ use Rattle.sql_grammar.specs.Terminals.{Terminal}
 use Rattle.sql_grammar.specs.Syntax.{Mark, Share}
 use Rattle.expr_reader.specs.Lists.{further_parts}
 use Rattle.ddl_reader.specs.Statistics.{common_words}
-use Rattle.ddl_reader.specs.AsMeant.{words_of_shares_left}
+use Rattle.ddl_reader.specs.work.AsMeant.{words_of_shares_left}
 use Rattle.ddl_reader.proofs.ListLemmas.{So}
 use Rattle.ddl_reader.proofs.LiteralListLemmas.{share_parts}
 use Rattle.ddl_reader.proofs.literals.shares.Given as goal

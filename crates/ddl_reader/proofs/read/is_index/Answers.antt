@@ -1,7 +1,7 @@
 use Rattle.std.proofs.Common.{refl, sym, ◌∙◌, subst}
 use Rattle.sql_grammar.specs.declared.class.Word.TheVariants.{Create}
 use Rattle.sql_grammar.specs.Terminals.{t_key}
-use Rattle.expr_reader.specs.Reading.{BeginsNot}
+use Rattle.expr_reader.specs.work.Reading.{BeginsNot}
 use Rattle.ddl_reader.proofs.OpeningLemmas.{no-create, index-by}
 use Rattle.ddl_reader.proofs.read.is_index.Goals as goal
 

@@ -4,9 +4,9 @@ use Rattle.sql_grammar.specs.declared.class.Free.TheVariants.{Analyze, Statistic
 use Rattle.sql_grammar.specs.Terminals.{free, t_key, t_name}
 use Rattle.sql_grammar.specs.Words.{words_of, words_of_ending}
 use Rattle.sql_grammar.specs.Faults.{terminals}
-use Rattle.expr_reader.specs.Reading.{BeginsNot}
-use Rattle.ddl_reader.specs.Statements.{begins_ddl}
-use Rattle.ddl_reader.specs.Readings.{ReadsAs}
+use Rattle.expr_reader.specs.work.Reading.{BeginsNot}
+use Rattle.ddl_reader.specs.work.Statements.{begins_ddl}
+use Rattle.ddl_reader.specs.work.Readings.{ReadsAs}
 use Rattle.ddl_reader.proofs.StatementLemmas.{creates, loads, describes, analyzes, table-as, statistics-as, analysis-as}
 use Rattle.ddl_reader.proofs.read.statement.Goals as goal
 

@@ -1,6 +1,6 @@
 use Rattle.std.proofs.Common.{◌≡◌, ◌++◌, ◌∙◌, rules, arith, ap, map}
 use Rattle.std.proofs.lemmas.Grind.{common_steps}
-use Rattle.ddl_reader.specs.AsMeant.{value_seen, start_seen}
+use Rattle.ddl_reader.specs.work.AsMeant.{value_seen, start_seen}
 use Rattle.ddl_reader.proofs.statistics.bound_values.Goals as goal
 
 pub returns-clause-values : goal.returns-clause-values

@@ -1,6 +1,6 @@
 use Rattle.std.proofs.Common.{◌≡◌, ◌++◌, map}
 use Rattle.std.specs.Vec.Iter.{into_iter_items}
-use Rattle.ddl_reader.specs.AsMeant.{value_seen, start_seen}
+use Rattle.ddl_reader.specs.work.AsMeant.{value_seen, start_seen}
 use Rattle.ddl_reader.proofs.statistics.bound_values.Given as goal
 
 abbrev pub invariant-loop-one : goal.invariant-loop-one

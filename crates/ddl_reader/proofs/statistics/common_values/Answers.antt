@@ -1,7 +1,7 @@
 use Rattle.std.proofs.Common.{◌≡◌, ◌++◌, ◌∙◌, rules, arith, ap, map}
 use Rattle.std.specs.List.{flat_map}
 use Rattle.std.proofs.lemmas.Grind.{common_steps}
-use Rattle.ddl_reader.specs.AsMeant.{common_seen, starts_seen}
+use Rattle.ddl_reader.specs.work.AsMeant.{common_seen, starts_seen}
 use Rattle.ddl_reader.proofs.statistics.common_values.Goals as goal
 
 pub returns-clause-values : goal.returns-clause-values

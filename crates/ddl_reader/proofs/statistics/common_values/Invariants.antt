@@ -1,7 +1,7 @@
 use Rattle.std.proofs.Common.{◌≡◌, ◌++◌, map}
 use Rattle.std.specs.List.{flat_map}
 use Rattle.std.specs.Vec.Iter.{into_iter_items}
-use Rattle.ddl_reader.specs.AsMeant.{common_seen, starts_seen}
+use Rattle.ddl_reader.specs.work.AsMeant.{common_seen, starts_seen}
 use Rattle.ddl_reader.proofs.statistics.common_values.Given as goal
 
 abbrev pub invariant-loop-one : goal.invariant-loop-one

@@ -5,7 +5,7 @@ use Rattle.sql_grammar.specs.Words.{words_of_histogram}
 use Rattle.expr_reader.specs.declared.value.Placed.{Placed}
 use Rattle.ddl_reader.specs.declared.literals.CommonRead.{CommonRead}
 use Rattle.ddl_reader.specs.Statistics.{commons_of, bounds_of}
-use Rattle.ddl_reader.specs.Readings.{reading}
+use Rattle.ddl_reader.specs.work.Readings.{reading}
 use Rattle.ddl_reader.proofs.AnswerLemmas.{err-reads}
 use Rattle.ddl_reader.proofs.Opened.{made-reads}
 use Rattle.ddl_reader.proofs.LiteralListLemmas.{lists-end}

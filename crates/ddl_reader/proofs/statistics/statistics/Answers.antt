@@ -8,9 +8,9 @@ use Rattle.catalog.specs.Contents.{table_at}
 use Rattle.catalog.specs.Indexes.{type_at}
 use Rattle.ddl_reader.specs.declared.ddl.Read.{Read}
 use Rattle.ddl_reader.specs.Statistics.{sizes_reading, statistics_reading, column_of_name, commons_of, bounds_of}
-use Rattle.ddl_reader.specs.AsMeant.{IsAsMeant, words_of_sizes, words_of_column}
+use Rattle.ddl_reader.specs.work.AsMeant.{IsAsMeant, words_of_sizes, words_of_column}
 use Rattle.ddl_reader.specs.Tables.{Reading}
-use Rattle.ddl_reader.specs.Readings.{reading}
+use Rattle.ddl_reader.specs.work.Readings.{reading}
 use Rattle.ddl_reader.proofs.Opened.{made-reads}
 use Rattle.ddl_reader.proofs.Parts.{named}
 use Rattle.ddl_reader.proofs.StatementWordLemmas.{sizes-left, table-told}

@@ -1,6 +1,6 @@
 use Rattle.std.proofs.Common.{◌≡◌, ◌∙◌, rules, arith, subst, map}
 use Rattle.std.proofs.lemmas.Grind.{common_steps}
-use Rattle.ddl_reader.specs.AsMeant.{seen}
+use Rattle.ddl_reader.specs.work.AsMeant.{seen}
 use Rattle.ddl_reader.specs.Tables.{table, table_reading}
 use Rattle.ddl_reader.proofs.Made.{made-reading}
 use Rattle.ddl_reader.proofs.table.made.Goals as goal

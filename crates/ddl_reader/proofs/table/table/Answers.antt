@@ -2,7 +2,7 @@ use Rattle.std.proofs.Common.{◌≡◌, ◌≤◌, length, ◌∙◌, Some, sli
 use Rattle.std.proofs.lemmas.Result.{err_from_is_err_and}
 use Rattle.pg_base.specs.declared.limits.TheConstants.{MOST_COLUMNS}
 use Rattle.ddl_reader.specs.declared.columns.ColumnDef.{ColumnDef}
-use Rattle.ddl_reader.specs.AsMeant.{words_of_body}
+use Rattle.ddl_reader.specs.work.AsMeant.{words_of_body}
 use Rattle.ddl_reader.proofs.Opened.{opened, past, within, made-reads, fault-reads}
 use Rattle.ddl_reader.proofs.table.table.Goals as goal
 

@@ -1,6 +1,7 @@
 use Rattle.std.proofs.Common.{◌∙◌, arith, refl, sym}
 use Rattle.std.proofs.lemmas.Bool.{false≢true}
-use Rattle.plan_check.specs.Views.{certificate, entry, side}
+use Rattle.plan_check.specs.Views.{side}
+use Rattle.plan_check.specs.work.Views.{certificate, entry}
 use Rattle.entry_check.proofs.BestLemmas.{before-all, finish-is, finished-from, finished-whole, no-side, read-count, unfolds-end}
 use Rattle.entry_check.proofs.best.finished_side.Goals as goal
 

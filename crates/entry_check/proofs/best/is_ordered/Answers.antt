@@ -1,6 +1,6 @@
 use Rattle.std.proofs.Common.{◌∙◌, ap, sym}
 use Rattle.pathkeys.specs.Keys.{Keys, covers, order_keys}
-use Rattle.plan_check.specs.Views.{entry}
+use Rattle.plan_check.specs.work.Views.{entry}
 use Rattle.entry_check.proofs.BestLemmas.{ordered-plain, ordered-sort}
 use Rattle.entry_check.proofs.best.is_ordered.Goals as goal
 

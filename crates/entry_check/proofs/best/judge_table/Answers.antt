@@ -1,4 +1,4 @@
-use Rattle.plan_check.specs.Views.{certificate, entry}
+use Rattle.plan_check.specs.work.Views.{certificate, entry}
 use Rattle.entry_check.proofs.BestLemmas.{bad-best, whole-with}
 use Rattle.entry_check.proofs.JudgeLemmas.{first-reason}
 use Rattle.entry_check.proofs.best.judge_table.Goals as goal

@@ -1,5 +1,5 @@
 use Rattle.std.proofs.Common.{arith, refl}
-use Rattle.plan_check.specs.Views.{certificate}
+use Rattle.plan_check.specs.work.Views.{certificate}
 use Rattle.entry_check.proofs.PlaceLemmas.{none-first, none-past, plan-read}
 use Rattle.entry_check.proofs.entries.entry_before.Goals as goal
 

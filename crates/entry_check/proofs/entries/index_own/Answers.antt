@@ -4,7 +4,7 @@ use Rattle.pg_base.specs.declared.numbers.RelNo.{RelNo}
 use Rattle.sql_query.specs.Queries.{width}
 use Rattle.plan_tree.specs.Plans.{Plan, index}
 use Rattle.plan_check.specs.Certificates.{relation_in}
-use Rattle.plan_check.specs.Views.{entry}
+use Rattle.plan_check.specs.work.Views.{entry}
 use Rattle.entry_check.proofs.ScanLemmas.{made-by, made-none}
 use Rattle.entry_check.proofs.entries.index_own.Goals as goal
 

@@ -1,8 +1,9 @@
 use Rattle.std.proofs.Common.{inl, inr}
 use Rattle.plan_tree.specs.Plans.{merge}
 use Rattle.plan_check.specs.Certificates.{side_at, sorted_if}
-use Rattle.plan_check.specs.Views.{certificate, entry, side}
-use Rattle.entry_check.specs.Owning.{plans_before}
+use Rattle.plan_check.specs.Views.{side}
+use Rattle.plan_check.specs.work.Views.{certificate, entry}
+use Rattle.entry_check.specs.work.Owning.{plans_before}
 use Rattle.entry_check.proofs.JudgeLemmas.{has-right, join-none, joined, no-join, side-none, side-some}
 use Rattle.entry_check.proofs.OwnLemmas.{if-none-then, if-some}
 use Rattle.entry_check.proofs.entries.merge_own.Goals as goal

@@ -1,8 +1,8 @@
 use Rattle.std.proofs.Common.{inl, inr}
 use Rattle.plan_tree.specs.Plans.{nest}
 use Rattle.plan_check.specs.Certificates.{plan_at}
-use Rattle.plan_check.specs.Views.{certificate, entry}
-use Rattle.entry_check.specs.Owning.{plans_before}
+use Rattle.plan_check.specs.work.Views.{certificate, entry}
+use Rattle.entry_check.specs.work.Owning.{plans_before}
 use Rattle.entry_check.proofs.JudgeLemmas.{has-right, join-none, joined, no-join}
 use Rattle.entry_check.proofs.OwnLemmas.{if-none-then, if-some}
 use Rattle.entry_check.proofs.entries.nest_own.Goals as goal

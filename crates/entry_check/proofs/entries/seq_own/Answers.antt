@@ -3,7 +3,7 @@ use Rattle.std.specs.Prelude.{option_map}
 use Rattle.sql_query.specs.Queries.{width}
 use Rattle.plan_tree.specs.Plans.{seq}
 use Rattle.plan_check.specs.Certificates.{relation_in}
-use Rattle.plan_check.specs.Views.{entry}
+use Rattle.plan_check.specs.work.Views.{entry}
 use Rattle.entry_check.proofs.ScanLemmas.{made-by, made-none}
 use Rattle.entry_check.proofs.entries.seq_own.Goals as goal
 

@@ -1,6 +1,6 @@
 use Rattle.std.proofs.Common.{ap}
 use Rattle.std.proofs.lemmas.Slice.Eq.{slice_eq-Decides}
-use Rattle.pathkeys.specs.Finding.{class_numbers}
+use Rattle.pathkeys.specs.work.Finding.{class_numbers}
 use Rattle.plan_check.proofs.SameLemmas.{class-decides, same-classes}
 use Rattle.entry_check.proofs.joins.are_equal.Goals as goal
 

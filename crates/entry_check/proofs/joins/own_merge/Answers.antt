@@ -2,7 +2,7 @@ use Rattle.std.proofs.Common.{◌∙◌, sym}
 use Rattle.std.proofs.lemmas.Bool.{false≢true}
 use Rattle.plan_tree.specs.Plans.{merge}
 use Rattle.plan_check.specs.Certificates.{sorted_if}
-use Rattle.plan_check.specs.Views.{entry}
+use Rattle.plan_check.specs.work.Views.{entry}
 use Rattle.entry_check.proofs.OwnLemmas.{if-none-then, if-some, merge-none, merge-some, no-list, list-at}
 use Rattle.entry_check.proofs.joins.own_merge.Goals as goal
 

@@ -1,7 +1,7 @@
 use Rattle.std.proofs.Common.{◌∙◌, refl, sym}
 use Rattle.std.proofs.lemmas.Bool.{false≢true}
-use Rattle.plan_check.specs.Views.{entry}
-use Rattle.plan_check.specs.Beating.{candidate}
+use Rattle.plan_check.specs.work.Views.{entry}
+use Rattle.plan_check.specs.work.Beating.{candidate}
 use Rattle.entry_check.proofs.OwnLemmas.{own-from, param-same, set-same}
 use Rattle.entry_check.proofs.joins.own_of.Goals as goal
 

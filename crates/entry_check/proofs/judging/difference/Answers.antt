@@ -1,4 +1,4 @@
-use Rattle.plan_check.specs.Views.{entry}
+use Rattle.plan_check.specs.work.Views.{entry}
 use Rattle.entry_check.proofs.JudgeLemmas.{none-differs, rows-differ, start-differs, total-differs}
 use Rattle.entry_check.proofs.judging.difference.Goals as goal
 

@@ -1,5 +1,5 @@
 use Rattle.std.proofs.Common.{arith, refl}
-use Rattle.plan_check.specs.Views.{certificate}
+use Rattle.plan_check.specs.work.Views.{certificate}
 use Rattle.entry_check.proofs.BestLemmas.{read-count}
 use Rattle.entry_check.proofs.JudgeLemmas.{all-right, none-right}
 use Rattle.entry_check.proofs.judging.judge_entries.Goals as goal

@@ -1,4 +1,4 @@
-use Rattle.plan_check.specs.Views.{certificate}
+use Rattle.plan_check.specs.work.Views.{certificate}
 use Rattle.plan_check.specs.Reasons.{AreRight}
 use Rattle.entry_check.proofs.judging.judge_entries.Given as goal
 

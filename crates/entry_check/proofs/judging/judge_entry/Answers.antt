@@ -1,5 +1,5 @@
 use Rattle.std.proofs.Common.{refl}
-use Rattle.plan_check.specs.Views.{certificate, entry}
+use Rattle.plan_check.specs.work.Views.{certificate, entry}
 use Rattle.entry_check.proofs.JudgeLemmas.{fault-node, fault-number, right-too}
 use Rattle.entry_check.proofs.PlaceLemmas.{read-there}
 use Rattle.entry_check.proofs.judging.judge_entry.Goals as goal

@@ -5,7 +5,7 @@ use Rattle.eq_classes.specs.Parts.{is_join}
 use Rattle.eq_classes.specs.declared.classes.ClassNo.{ClassNo}
 use Rattle.path_cost.specs.Costs.{operators}
 use Rattle.path_cost.specs.Estimates.{conditions_where, is_pair_of, pairs}
-use Rattle.pathkeys.specs.Finding.{class_numbers}
+use Rattle.pathkeys.specs.work.Finding.{class_numbers}
 use Rattle.entry_check.proofs.CostLemmas.{merge-rule}
 use Rattle.entry_check.proofs.merges.merge_cost.Goals as goal
 

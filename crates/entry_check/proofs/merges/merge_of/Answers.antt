@@ -2,13 +2,13 @@ use Rattle.std.proofs.Common.{List, subst, sym}
 use Rattle.std.specs.Prelude.{IfNone, IfSome}
 use Rattle.pg_base.specs.Sets.{has}
 use Rattle.eq_classes.specs.declared.classes.ClassNo.{ClassNo}
-use Rattle.pathkeys.specs.Finding.{class_numbers}
+use Rattle.pathkeys.specs.work.Finding.{class_numbers}
 use Rattle.plan_tree.specs.Least.{IsAdmissible}
 use Rattle.plan_tree.specs.Plans.{Plan, merge}
 use Rattle.plan_tree.specs.Space.{IsBuilt, IsMergeList}
 use Rattle.plan_check.specs.Certificates.{sorted_if}
-use Rattle.plan_check.specs.Views.{entry}
-use Rattle.plan_check.specs.Beating.{IsRight, candidate}
+use Rattle.plan_check.specs.work.Views.{entry}
+use Rattle.plan_check.specs.work.Beating.{IsRight, candidate}
 use Rattle.entry_check.proofs.merges.merge_of.Goals as goal
 
 pub merge_with-requires-clause-list : goal.merge_with-requires-clause-list

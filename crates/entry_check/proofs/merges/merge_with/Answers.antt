@@ -1,10 +1,10 @@
 use Rattle.std.proofs.Common.{◌∙◌, refl, sym}
 use Rattle.std.proofs.lemmas.Bool.{false≢true}
-use Rattle.pathkeys.specs.Finding.{class_numbers}
+use Rattle.pathkeys.specs.work.Finding.{class_numbers}
 use Rattle.plan_tree.proofs.BoundLemmas.{lawful-rows}
 use Rattle.plan_tree.specs.Plans.{merge}
 use Rattle.plan_check.specs.Certificates.{sorted_if}
-use Rattle.plan_check.specs.Views.{entry}
+use Rattle.plan_check.specs.work.Views.{entry}
 use Rattle.entry_check.proofs.CostLemmas.{whole-rows}
 use Rattle.plan_check.proofs.MergeLemmas.{built-merge}
 use Rattle.entry_check.proofs.MergeLemmas.{merge-right, merge-set}

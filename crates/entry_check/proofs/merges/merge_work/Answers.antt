@@ -1,7 +1,7 @@
 use Rattle.std.proofs.Common.{◌∙◌}
 use Rattle.pg_base.specs.Sets.{has}
 use Rattle.path_cost.specs.Estimates.{pairs}
-use Rattle.pathkeys.specs.Finding.{class_numbers}
+use Rattle.pathkeys.specs.work.Finding.{class_numbers}
 use Rattle.entry_check.proofs.merges.merge_work.Goals as goal
 
 pub returns-clause-work : goal.returns-clause-work

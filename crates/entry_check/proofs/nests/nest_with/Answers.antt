@@ -2,7 +2,7 @@ use Rattle.std.proofs.Common.{◌∙◌, refl, sym}
 use Rattle.std.proofs.lemmas.Bool.{false≢true}
 use Rattle.plan_tree.proofs.BoundLemmas.{lawful-rows}
 use Rattle.plan_tree.specs.Plans.{nest}
-use Rattle.plan_check.specs.Views.{entry}
+use Rattle.plan_check.specs.work.Views.{entry}
 use Rattle.entry_check.proofs.CostLemmas.{whole-rows}
 use Rattle.plan_check.proofs.NestLemmas.{built-nest}
 use Rattle.entry_check.proofs.NestLemmas.{nest-right, nest-set}

@@ -1,5 +1,5 @@
 use Rattle.std.proofs.Common.{◌≡◌}
-use Rattle.entry_check.specs.Working.{IsNestWork}
+use Rattle.entry_check.specs.work.Working.{IsNestWork}
 use Rattle.entry_check.proofs.nests.nest_work_given.Given as goal
 
 abbrev pub invariant-loop-bits : goal.invariant-loop-bits

@@ -1,5 +1,5 @@
 use Rattle.std.proofs.Common.{subst, sym}
-use Rattle.entry_check.specs.Working.{AreNestOperators}
+use Rattle.entry_check.specs.work.Working.{AreNestOperators}
 use Rattle.entry_check.proofs.nests.operators_given.Goals as goal
 
 pub returns-then-p-eq0 : goal.returns-then-p-eq0

@@ -1,5 +1,5 @@
 use Rattle.std.proofs.Common.{ℕ}
-use Rattle.entry_check.specs.Working.{AreNestOperators}
+use Rattle.entry_check.specs.work.Working.{AreNestOperators}
 use Rattle.entry_check.proofs.WorkLemmas.{given-more}
 use Rattle.entry_check.proofs.nests.work_out.Goals as goal
 

@@ -1,4 +1,4 @@
-use Rattle.pathkeys.specs.Finding.{class_numbers}
+use Rattle.pathkeys.specs.work.Finding.{class_numbers}
 use Rattle.entry_check.proofs.CostLemmas.{merge-operators-are}
 use Rattle.entry_check.proofs.operators.merge_operators.Goals as goal
 

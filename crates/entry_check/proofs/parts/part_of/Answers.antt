@@ -1,5 +1,5 @@
 use Rattle.plan_tree.proofs.BoundLemmas.{lawful-rows}
-use Rattle.plan_check.specs.Views.{entry}
+use Rattle.plan_check.specs.work.Views.{entry}
 use Rattle.entry_check.proofs.PartLemmas.{entry-part, entry-reckoned}
 use Rattle.entry_check.proofs.parts.part_of.Goals as goal
 

@@ -1,4 +1,4 @@
-use Rattle.plan_check.specs.Views.{entry}
+use Rattle.plan_check.specs.work.Views.{entry}
 use Rattle.entry_check.proofs.PartLemmas.{side-plain, side-sorted}
 use Rattle.entry_check.proofs.parts.side_of.Goals as goal
 

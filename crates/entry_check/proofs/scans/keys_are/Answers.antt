@@ -3,12 +3,12 @@ use Rattle.std.specs.Prelude.{slice_get}
 use Rattle.std.proofs.lemmas.Bool.{false≢true}
 use Rattle.std.proofs.lemmas.List.{length-map}
 use Rattle.eq_classes.specs.declared.classes.ClassNo.{ClassNo}
-use Rattle.pathkeys.specs.Finding.{class_numbers}
+use Rattle.pathkeys.specs.work.Finding.{class_numbers}
 use Rattle.pathkeys.specs.Keys.{Keys}
 use Rattle.plan_tree.specs.Keys.{keys_of}
 use Rattle.plan_space.proofs.KeyLemmas.{number-at}
 use Rattle.pg_base.proofs.NumberLemmas.{each-below as below-next}
-use Rattle.entry_check.specs.Owning.{tree_of}
+use Rattle.entry_check.specs.work.Owning.{tree_of}
 use Rattle.entry_check.proofs.ScanLemmas.{key-at-end, some-end, tree-few, tree-keys, tree-made}
 use Rattle.entry_check.proofs.scans.keys_are.Goals as goal
 

@@ -1,8 +1,8 @@
 use Rattle.std.proofs.Common.{◌≡◌, ◌<◌, ℕ}
 use Rattle.std.specs.Prelude.{slice_get}
-use Rattle.pathkeys.specs.Finding.{class_numbers}
+use Rattle.pathkeys.specs.work.Finding.{class_numbers}
 use Rattle.plan_tree.specs.Keys.{keys_of}
-use Rattle.entry_check.specs.Owning.{tree_of}
+use Rattle.entry_check.specs.work.Owning.{tree_of}
 use Rattle.entry_check.proofs.scans.keys_are.Given as goal
 
 abbrev pub invariant-loop-n : goal.invariant-loop-n

@@ -2,12 +2,12 @@ use Rattle.std.proofs.Common.{◌∙◌, ap, refl, sym}
 use Rattle.std.proofs.lemmas.Bool.{false≢true}
 use Rattle.pg_base.specs.Sets.{has}
 use Rattle.plan_tree.specs.Costs.{cost}
-use Rattle.plan_tree.specs.Paths.{kept_cost}
+use Rattle.plan_tree.specs.work.Paths.{kept_cost}
 use Rattle.plan_tree.specs.Plans.{bitmap}
-use Rattle.plan_tree.specs.Views.{bits}
+use Rattle.plan_tree.specs.work.Views.{bits}
 use Rattle.plan_tree.proofs.BoundLemmas.{lawful-rows}
 use Rattle.plan_tree.proofs.CostableLemmas.{tree-made}
-use Rattle.plan_check.specs.Views.{entry}
+use Rattle.plan_check.specs.work.Views.{entry}
 use Rattle.entry_check.proofs.ScanLemmas.{kept-cut, no-keys, param-given, scan-judged, some-keys}
 use Rattle.entry_check.proofs.scans.own_bitmap.Goals as goal
 

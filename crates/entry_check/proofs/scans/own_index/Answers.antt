@@ -3,12 +3,12 @@ use Rattle.std.proofs.lemmas.Bool.{false≢true}
 use Rattle.pg_base.specs.Sets.{has}
 use Rattle.pg_base.specs.declared.rel_set.RelSet.{RelSet}
 use Rattle.plan_tree.specs.Costs.{scan_cost}
-use Rattle.plan_tree.specs.Paths.{kept_cost}
+use Rattle.plan_tree.specs.work.Paths.{kept_cost}
 use Rattle.plan_tree.proofs.BoundLemmas.{lawful-rows}
-use Rattle.cost_rules.specs.Costs.{capped_pair}
+use Rattle.cost_rules.specs.work.Costs.{capped_pair}
 use Rattle.cost_rules.specs.declared.pair.Pair.{Pair}
-use Rattle.plan_check.specs.Views.{entry}
-use Rattle.entry_check.specs.Owning.{tree_of}
+use Rattle.plan_check.specs.work.Views.{entry}
+use Rattle.entry_check.specs.work.Owning.{tree_of}
 use Rattle.entry_check.proofs.ScanLemmas.{kept-cut, scan-judged, tree-cost, tree-made, tree-param, tree-plain, tree-rows, tree-set}
 use Rattle.entry_check.proofs.scans.own_index.Goals as goal
 

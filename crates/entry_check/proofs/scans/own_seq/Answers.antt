@@ -2,10 +2,10 @@ use Rattle.std.proofs.Common.{◌∙◌, ap, refl, sym}
 use Rattle.std.proofs.lemmas.Bool.{false≢true}
 use Rattle.pg_base.specs.Sets.{has}
 use Rattle.pg_base.proofs.SetLaws.{has-zero, none-zero}
-use Rattle.plan_tree.specs.Paths.{kept_cost}
+use Rattle.plan_tree.specs.work.Paths.{kept_cost}
 use Rattle.plan_tree.specs.Plans.{seq}
 use Rattle.plan_tree.proofs.BoundLemmas.{lawful-rows}
-use Rattle.plan_check.specs.Views.{entry}
+use Rattle.plan_check.specs.work.Views.{entry}
 use Rattle.entry_check.proofs.CostLemmas.{whole-rows}
 use Rattle.entry_check.proofs.PartLemmas.{set-estimate}
 use Rattle.entry_check.proofs.ScanLemmas.{kept-cut, no-keys, scan-judged, some-keys}

@@ -3,7 +3,7 @@ use Rattle.std.proofs.lemmas.List.{length-map}
 use Rattle.pg_base.specs.Sets.{has}
 use Rattle.eq_classes.specs.declared.classes.ClassNo.{ClassNo}
 use Rattle.path_cost.specs.Estimates.{pairs}
-use Rattle.pathkeys.specs.Finding.{class_numbers}
+use Rattle.pathkeys.specs.work.Finding.{class_numbers}
 use Rattle.entry_check.proofs.CostLemmas.{merge-rule}
 use Rattle.entry_check.proofs.work.merge_cost.Goals as goal
 

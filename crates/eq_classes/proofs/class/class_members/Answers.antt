@@ -2,7 +2,7 @@ use Rattle.std.proofs.Common.{◌≡◌, true, [], sym, subst, List, AllPairs}
 use Rattle.std.proofs.lemmas.Result.{IfOk-weaker}
 use Rattle.pg_expr.specs.declared.operand.ColRef.{ColRef}
 use Rattle.pg_expr.specs.Pushed.{is_lower}
-use Rattle.eq_classes.specs.Building.{arranged}
+use Rattle.eq_classes.specs.work.Building.{arranged}
 use Rattle.eq_classes.proofs.MemberLemmas.{arranged_pairs}
 use Rattle.eq_classes.proofs.class.class_members.Goals as goal
 

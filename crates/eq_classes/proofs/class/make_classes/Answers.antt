@@ -1,6 +1,6 @@
 use Rattle.std.proofs.Common.{subst, sym, ◌∙◌}
 use Rattle.eq_classes.specs.Classes.{AreClasses}
-use Rattle.eq_classes.specs.Building.{given}
+use Rattle.eq_classes.specs.work.Building.{given}
 use Rattle.eq_classes.proofs.BuiltLemmas.{built_is, all_are_classes}
 use Rattle.eq_classes.proofs.class.make_classes.Goals as goal
 

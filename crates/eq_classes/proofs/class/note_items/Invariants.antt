@@ -1,6 +1,6 @@
 use Rattle.std.proofs.Common.{◌≡◌, ℕ, ◌<◌, drop, slice_index_or}
 use Rattle.eq_classes.specs.declared.order.OrderItem.{OrderItem}
-use Rattle.eq_classes.specs.Building.{given, by_order}
+use Rattle.eq_classes.specs.work.Building.{given, by_order}
 use Rattle.eq_classes.proofs.class.note_items.Given as goal
 
 abbrev pub invariant-loop-item : goal.invariant-loop-item

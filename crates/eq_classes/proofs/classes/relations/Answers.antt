@@ -2,7 +2,7 @@ use Rattle.std.proofs.Common.{◌≡◌, ℕ, length, arith, append-nil, ◌++�
 use Rattle.std.proofs.Math.Seq.{drop-length}
 use Rattle.opfamily.specs.pg_base_rel_set_RelSet.{RelSet}
 use Rattle.eq_classes.specs.declared.clauses.Listed.{Listed}
-use Rattle.eq_classes.specs.Listing.{AreNamed}
+use Rattle.eq_classes.specs.work.Listing.{AreNamed}
 use Rattle.eq_classes.proofs.NamedLemmas.{named_next}
 use Rattle.eq_classes.proofs.classes.relations.Goals as goal
 

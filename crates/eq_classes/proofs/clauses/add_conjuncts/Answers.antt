@@ -3,9 +3,9 @@ use Rattle.std.proofs.lemmas.Bool.{and_parts}
 use Rattle.pg_expr.specs.declared.expr.Expr.{Expr}
 use Rattle.pg_expr.specs.Columns.{each_column, each_column_of}
 use Rattle.pg_expr.specs.Typed.{AreTyped}
-use Rattle.pg_expr.specs.View.{cond, conds}
+use Rattle.pg_expr.specs.work.View.{cond, conds}
 use Rattle.eq_classes.specs.Clauses.{conjunct_clauses}
-use Rattle.eq_classes.specs.Listing.{clauses_of}
+use Rattle.eq_classes.specs.work.Listing.{clauses_of}
 use Rattle.eq_classes.proofs.SearchLemmas.{conjunct_rows}
 use Rattle.eq_classes.proofs.clauses.add_conjuncts.Goals as goal
 

@@ -1,5 +1,6 @@
 use Rattle.std.proofs.Common.{◌++◌, flat_map}
-use Rattle.eq_classes.specs.Listing.{class_at, clauses_of, inner_at}
+use Rattle.eq_classes.specs.Listing.{class_at}
+use Rattle.eq_classes.specs.work.Listing.{clauses_of, inner_at}
 use Rattle.eq_classes.proofs.SearchLemmas.{step_rows}
 use Rattle.eq_classes.proofs.clauses.inner_rows.Goals as goal
 

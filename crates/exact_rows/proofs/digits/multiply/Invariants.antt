@@ -1,5 +1,5 @@
 use Rattle.std.proofs.Common.{◌≡◌, ◌<◌, ◌*◌, ◌^◌}
-use Rattle.exact_rows.specs.Digits.{AreDigits, number}
+use Rattle.exact_rows.specs.work.Digits.{AreDigits, number}
 use Rattle.exact_rows.proofs.DigitLemmas.{reached}
 use Rattle.exact_rows.proofs.digits.multiply.Given as goal
 

@@ -1,6 +1,6 @@
 use Rattle.std.proofs.Common.{arith, ◌≡◌, ◌∙◌, ap, sym}
 use Rattle.std.proofs.Common.{◌+◌, ◌-◌}
-use Rattle.exact_rows.specs.Digits.{number}
+use Rattle.exact_rows.specs.work.Digits.{number}
 use Rattle.std.specs.Prelude.{drop}
 use Rattle.exact_rows.proofs.DigitLemmas.{put-below, share-carried, moves-first, moves-on, moves-last, moved}
 use Rattle.exact_rows.proofs.digits.scale.Goals as goal

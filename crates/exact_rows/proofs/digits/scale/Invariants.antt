@@ -1,6 +1,6 @@
 use Rattle.std.proofs.Common.{◌≡◌, ◌<◌, ◌+◌, ◌-◌, ◌*◌, ◌/◌}
 use Rattle.exact_rows.specs.declared.digits.TheConstants.{BASE}
-use Rattle.exact_rows.specs.Digits.{AreDigits, number}
+use Rattle.exact_rows.specs.work.Digits.{AreDigits, number}
 use Rattle.exact_rows.proofs.DigitLemmas.{moved}
 use Rattle.exact_rows.proofs.digits.scale.Given as goal
 

@@ -1,4 +1,4 @@
-use Rattle.exact_rows.specs.Digits.{AreDigits}
+use Rattle.exact_rows.specs.work.Digits.{AreDigits}
 use Rattle.exact_rows.proofs.digits.trim.Given as goal
 
 -- the digits from the place on are 0

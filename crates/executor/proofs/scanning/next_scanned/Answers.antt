@@ -1,9 +1,10 @@
 use Rattle.std.proofs.Common.{◌≡◌, ◌∷◌, ◌++◌, ◌∙◌, [], List, length, sym, ap, rules}
 use Rattle.pg_base.specs.declared.numbers.Tid.{Tid}
 use Rattle.sql_query.specs.Queries.{Query}
-use Rattle.plan_tree.specs.Views.{plan}
-use Rattle.scan_exec.specs.Coming.{Coming, rows_to_come}
-use Rattle.executor.specs.Numbers.{numbers}
+use Rattle.plan_tree.specs.work.Views.{plan}
+use Rattle.scan_exec.specs.Coming.{Coming}
+use Rattle.scan_exec.specs.work.Coming.{rows_to_come}
+use Rattle.executor.specs.work.Numbers.{numbers}
 use Rattle.executor.proofs.DrawLemmas.{found_left, none_left, none_behind, rises}
 use Rattle.executor.proofs.ScanLemmas.{scan_long, scan_step}
 use Rattle.executor.proofs.scanning.next_scanned.Goals as goal

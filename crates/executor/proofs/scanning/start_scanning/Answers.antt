@@ -1,5 +1,5 @@
-use Rattle.plan_tree.specs.Views.{plan}
-use Rattle.executor.specs.EState.{world_of}
+use Rattle.plan_tree.specs.work.Views.{plan}
+use Rattle.executor.specs.work.EState.{world_of}
 use Rattle.executor.proofs.ScanLemmas.{drawn_below, no_outer, scan_opens, started_coming, started_left, started_owed}
 use Rattle.executor.proofs.scanning.start_scanning.Goals as goal
 

@@ -1,6 +1,6 @@
 use Rattle.std.proofs.Common.{◌≡◌, ◌++◌, drop}
-use Rattle.plan_tree.specs.Views.{bits_all}
-use Rattle.explain.specs.Lines.{HaveIndexes}
+use Rattle.plan_tree.specs.work.Views.{bits_all}
+use Rattle.explain.specs.work.Lines.{HaveIndexes}
 use Rattle.explain.specs.Texts.{trees_text}
 use Rattle.explain.proofs.bits.+put_bits.Given as goal
 

@@ -1,6 +1,6 @@
 use Rattle.std.proofs.Common.{◌≡◌, ◌++◌, codes, cond, nat_eq, [], map, drop}
 use Rattle.pg_base.specs.Sets.{has}
-use Rattle.pathkeys.specs.Finding.{class_numbers}
+use Rattle.pathkeys.specs.work.Finding.{class_numbers}
 use Rattle.explain.specs.Texts.{key_text, keys_text, with_commas}
 use Rattle.explain.proofs.keys.put_keys.Given as goal
 

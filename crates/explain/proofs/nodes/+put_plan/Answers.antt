@@ -1,7 +1,7 @@
 use Rattle.std.proofs.Common.{◌∙◌, ap, ap₂, sym}
 use Rattle.std.proofs.lemmas.Result.{on_ok_weaker}
 use Rattle.plan_tree.specs.Plans.{merge, nest}
-use Rattle.plan_tree.specs.Views.{bits, plan}
+use Rattle.plan_tree.specs.work.Views.{bits, plan}
 use Rattle.plan_tree.specs.declared.plan.Plan.{Plan}
 use Rattle.explain.proofs.ShownLemmas.{bitmap-lines, has-line, merge-lines, nest-lines, tree-indexes}
 use Rattle.explain.proofs.nodes.+put_plan.Goals as goal

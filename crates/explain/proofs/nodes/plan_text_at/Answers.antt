@@ -1,4 +1,4 @@
-use Rattle.plan_tree.specs.Views.{plan}
+use Rattle.plan_tree.specs.work.Views.{plan}
 use Rattle.plan_tree.proofs.BoundLemmas.{lawful-rows}
 use Rattle.explain.proofs.ShownLemmas.{shown-lines}
 use Rattle.explain.proofs.nodes.plan_text_at.Goals as goal

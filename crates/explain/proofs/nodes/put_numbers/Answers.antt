@@ -1,4 +1,4 @@
-use Rattle.plan_tree.specs.Views.{plan}
+use Rattle.plan_tree.specs.work.Views.{plan}
 use Rattle.plan_tree.proofs.PricingLemmas.{costable-reads}
 use Rattle.plan_laws.proofs.WellBoundLemmas.{bound-over}
 use Rattle.explain.proofs.nodes.put_numbers.Goals as goal

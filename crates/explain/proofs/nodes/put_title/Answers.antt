@@ -2,8 +2,9 @@ use Rattle.std.proofs.Common.{◌≡◌, ◌++◌, ◌∙◌, List, ℕ, cond, a
 use Rattle.std.specs.Result.{OnOk, is_ok}
 use Rattle.std.proofs.Common.{Result, Ok, Err}
 use Rattle.std.proofs.lemmas.Result.{on_ok_weaker}
-use Rattle.plan_tree.specs.Views.{plan}
-use Rattle.explain.specs.Texts.{node_keys, title}
+use Rattle.plan_tree.specs.work.Views.{plan}
+use Rattle.explain.specs.Texts.{title}
+use Rattle.explain.specs.work.Texts.{node_keys}
 use Rattle.explain.proofs.nodes.put_title.Goals as goal
 
 -- what a call leaves that appends some bytes, or fails

@@ -1,8 +1,8 @@
 use Rattle.std.proofs.Common.{◌≡◌, ◌≤◌, [], drop, length, drop_of_length-le, ap, ◌∙◌, arith}
 use Rattle.pg_expr.specs.Conjuncts.{conjuncts_of}
 use Rattle.pg_expr.specs.Pushed.{group_of, pushed_parts}
-use Rattle.pg_expr.specs.View.{conds}
-use Rattle.expr_reader.specs.Counts.{count_of}
+use Rattle.pg_expr.specs.work.View.{conds}
+use Rattle.expr_reader.specs.work.Counts.{count_of}
 use Rattle.expr_reader.proofs.CountLemmas.{all-counted, each_counted}
 use Rattle.expr_reader.proofs.counts.+conjunct_count.Goals as goal
 

@@ -1,5 +1,5 @@
 use Rattle.std.proofs.Common.{◌≡◌, ◌+◌, ◌-◌, ◌^◌, ◌<◌, min, drop}
-use Rattle.pg_expr.specs.View.{conds}
+use Rattle.pg_expr.specs.work.View.{conds}
 use Rattle.expr_reader.proofs.CountLemmas.{each_counted}
 use Rattle.expr_reader.proofs.counts.+conjunct_count.Given as goal
 

@@ -1,16 +1,16 @@
 use Rattle.std.proofs.Common.{◌≡◌, ◌++◌, ◌∷◌, Ok, arith, length, refl, sym, ap, ◌∙◌}
 use Rattle.pg_expr.specs.Cond.{Cond, negation}
-use Rattle.pg_expr.specs.View.{cond, conds}
+use Rattle.pg_expr.specs.work.View.{cond, conds}
 use Rattle.pg_expr.specs.declared.expr.Expr.{Expr, Not as NotOf}
 use Rattle.sql_grammar.specs.declared.class.Symbol.TheVariants.{Open, Close}
 use Rattle.sql_grammar.specs.declared.class.Word.TheVariants.{And, Not, Or}
 use Rattle.sql_grammar.specs.Terminals.{t_key, t_mark}
-use Rattle.sql_grammar.specs.Unique.{front, tail}
+use Rattle.sql_grammar.specs.work.Unique.{front, tail}
 use Rattle.sql_grammar.specs.Words.{words_of_ands, words_of_ors}
 use Rattle.sql_grammar.proofs.ExprTrees.{parted, tail-dotless}
 use Rattle.expr_reader.specs.declared.written.Side.{Side}
 use Rattle.expr_reader.specs.Conditions.{next, meaning_of_expr, meaning_of_conj, meaning_of_neg, meaning_of_atom}
-use Rattle.expr_reader.specs.Written.{side_meant}
+use Rattle.expr_reader.specs.work.Written.{side_meant}
 use Rattle.expr_reader.proofs.AtomLemmas.{in-parens, no-parens, after-not, not-absent, front-fault}
 use Rattle.expr_reader.proofs.OperandLemmas.{side-fault, side-found}
 use Rattle.expr_reader.proofs.PartLemmas.{cond-not, first-and, first-and-fault, first-and-read, next-and, next-and-fault, next-and-read, last-and, first-or, first-or-fault, first-or-read, next-or, next-or-fault, next-or-read, last-or, some-parts, first-parts, more-parts, fewer}

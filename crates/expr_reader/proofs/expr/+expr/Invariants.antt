@@ -1,8 +1,8 @@
 use Rattle.std.proofs.Common.{◌≡◌, ◌<◌, ◌≤◌, ◌+◌, ◌*◌, true, List, ◌++◌, length}
-use Rattle.pg_expr.specs.View.{conds}
+use Rattle.pg_expr.specs.work.View.{conds}
 use Rattle.sql_grammar.specs.Terminals.{Terminal}
 use Rattle.sql_grammar.specs.Syntax.{Expr, Conj}
-use Rattle.sql_grammar.specs.Unique.{ends_conj, ends_expr}
+use Rattle.sql_grammar.specs.work.Unique.{ends_conj, ends_expr}
 use Rattle.sql_grammar.specs.Words.{words_of_expr, words_of_conj}
 use Rattle.expr_reader.proofs.PartLemmas.{OrsLeft, AndsLeft}
 use Rattle.expr_reader.proofs.expr.+expr.Given as goal

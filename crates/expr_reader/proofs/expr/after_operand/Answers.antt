@@ -1,12 +1,12 @@
 use Rattle.std.proofs.Common.{◌≡◌, ◌∷◌, ◌++◌, List, Ok, codes, refl, sym, ap, ◌∙◌}
 use Rattle.pg_expr.specs.Cond.{Cond}
-use Rattle.pg_expr.specs.View.{cond}
+use Rattle.pg_expr.specs.work.View.{cond}
 use Rattle.pg_expr.specs.declared.expr.Expr.{Expr}
 use Rattle.sql_grammar.specs.declared.class.Free.TheVariants.{Between, In}
 use Rattle.sql_grammar.specs.Terminals.{Terminal}
-use Rattle.expr_reader.specs.Reading.{free_name}
+use Rattle.expr_reader.specs.work.Reading.{free_name}
 use Rattle.expr_reader.specs.Conditions.{literals_after, meaning_of_atom, of_column}
-use Rattle.expr_reader.specs.Expressions.{against, each_equal}
+use Rattle.expr_reader.specs.work.Expressions.{against, each_equal}
 use Rattle.expr_reader.specs.declared.written.Side.TheVariants.{Column}
 use Rattle.expr_reader.proofs.AtomLemmas.{column-atom, constant-atom}
 use Rattle.expr_reader.proofs.ListLemmas.{any, both, list-next, listed-read, listed-side, negated-read, none-next, perhaps_negated, range-next, TakesNot}

@@ -1,12 +1,12 @@
 use Rattle.std.proofs.Common.{◌≡◌, List, ◌∷◌, ◌++◌, Ok, arith, length, refl, sym, ap, ◌∙◌}
 use Rattle.pg_expr.specs.Cond.{Cond}
-use Rattle.pg_expr.specs.View.{cond, conds}
+use Rattle.pg_expr.specs.work.View.{cond, conds}
 use Rattle.pg_expr.specs.declared.expr.Expr.{Expr}
 use Rattle.sql_grammar.specs.declared.class.Symbol.TheVariants.{Close, Comma, Open}
 use Rattle.sql_grammar.specs.Terminals.{Terminal, t_mark}
 use Rattle.sql_grammar.specs.Words.{words_of_bounds, words_of_lit}
 use Rattle.expr_reader.specs.Conditions.{literals_after, of_column}
-use Rattle.expr_reader.specs.Expressions.{each_equal}
+use Rattle.expr_reader.specs.work.Expressions.{each_equal}
 use Rattle.expr_reader.proofs.ListLemmas.{any, any-fault, any-read, equal_one, first-equal, first-equal-fault, next-equal, next-equal-read, next-equal-fault, last-equal}
 use Rattle.expr_reader.proofs.PartLemmas.{some-parts, first-parts, more-parts, fewer}
 use Rattle.expr_reader.proofs.ReadsLemmas.{read-ok, read-refused, read-want, was-read}

@@ -1,11 +1,11 @@
 use Rattle.std.proofs.Common.{◌≡◌, ◌≤◌, ◌<◌, List, ◌∷◌, ◌++◌, length}
-use Rattle.pg_expr.specs.View.{conds}
+use Rattle.pg_expr.specs.work.View.{conds}
 use Rattle.sql_grammar.specs.declared.class.Symbol.TheVariants.{Close, Open}
 use Rattle.sql_grammar.specs.Terminals.{Terminal, t_mark}
 use Rattle.sql_grammar.specs.Syntax.{Lit, Mark}
 use Rattle.sql_grammar.specs.Words.{words_of_bounds, words_of_lit}
 use Rattle.expr_reader.specs.Conditions.{literals_after, of_column}
-use Rattle.expr_reader.specs.Expressions.{each_equal}
+use Rattle.expr_reader.specs.work.Expressions.{each_equal}
 use Rattle.expr_reader.proofs.ListLemmas.{EqualsLeft}
 use Rattle.expr_reader.proofs.expr.among.Given as goal
 

@@ -1,6 +1,6 @@
 use Rattle.std.proofs.Common.{ap, ◌∙◌}
 use Rattle.pg_expr.specs.Cond.{all_of}
-use Rattle.pg_expr.specs.View.{conds}
+use Rattle.pg_expr.specs.work.View.{conds}
 use Rattle.expr_reader.proofs.PartLemmas.{cond-and-of, many-and}
 use Rattle.expr_reader.proofs.expr.and_of.Goals as goal
 

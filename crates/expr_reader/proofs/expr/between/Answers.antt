@@ -1,12 +1,12 @@
 use Rattle.std.proofs.Common.{◌≡◌, ◌∷◌, ◌++◌, Ok, codes, refl, sym, ap, ◌∙◌}
 use Rattle.pg_expr.specs.Cond.{Cond, no_conds, cond_and, joined}
-use Rattle.pg_expr.specs.View.{cond, conds}
+use Rattle.pg_expr.specs.work.View.{cond, conds}
 use Rattle.pg_expr.specs.declared.expr.Expr.{Expr}
 use Rattle.sql_grammar.specs.declared.class.Word.TheVariants.{And}
 use Rattle.sql_grammar.specs.Terminals.{Terminal, t_key}
 use Rattle.sql_grammar.specs.Words.{words_of_operand}
 use Rattle.expr_reader.specs.Conditions.{standing_for}
-use Rattle.expr_reader.specs.Expressions.{against}
+use Rattle.expr_reader.specs.work.Expressions.{against}
 use Rattle.expr_reader.proofs.ListLemmas.{both, first-of-both, second-of-both, both-read}
 use Rattle.expr_reader.proofs.PartLemmas.{first-parts, more-parts}
 use Rattle.expr_reader.proofs.ReadsLemmas.{read-ok, read-refused, read-want, was-read}

@@ -1,10 +1,10 @@
 use Rattle.std.proofs.Common.{ap}
 use Rattle.pg_expr.specs.Cond.{Cond}
-use Rattle.pg_expr.specs.View.{cond}
+use Rattle.pg_expr.specs.work.View.{cond}
 use Rattle.pg_expr.specs.declared.expr.Expr.{Expr}
 use Rattle.expr_reader.specs.declared.written.Side.{Side}
 use Rattle.expr_reader.specs.Conditions.{next, compare_sides, side_of}
-use Rattle.expr_reader.specs.Written.{side_meant}
+use Rattle.expr_reader.specs.work.Written.{side_meant}
 use Rattle.expr_reader.proofs.ReadsLemmas.{read-refused}
 use Rattle.expr_reader.proofs.OperandLemmas.{side-fault}
 use Rattle.expr_reader.proofs.expr.comparison.Goals as goal

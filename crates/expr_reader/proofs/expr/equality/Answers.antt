@@ -1,6 +1,6 @@
 use Rattle.std.proofs.Common.{codes, refl, sym, ap}
 use Rattle.pg_expr.specs.Cond.{Cond}
-use Rattle.pg_expr.specs.View.{cond}
+use Rattle.pg_expr.specs.work.View.{cond}
 use Rattle.pg_expr.specs.declared.expr.Expr.{Expr}
 use Rattle.expr_reader.specs.declared.written.Side.TheVariants.{Literal as LiteralSide}
 use Rattle.expr_reader.specs.Conditions.{of_column, of_literal, standing_for}

@@ -1,6 +1,6 @@
 use Rattle.std.proofs.Common.{ap, ◌∙◌}
 use Rattle.pg_expr.specs.Cond.{any_of}
-use Rattle.pg_expr.specs.View.{conds}
+use Rattle.pg_expr.specs.work.View.{conds}
 use Rattle.expr_reader.proofs.PartLemmas.{cond-or, many-or}
 use Rattle.expr_reader.proofs.expr.or_of.Goals as goal
 

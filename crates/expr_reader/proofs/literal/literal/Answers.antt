@@ -3,7 +3,7 @@ use Rattle.sql_grammar.specs.Terminals.{t_key, t_mark, t_number}
 use Rattle.sql_grammar.specs.Words.{constant_word}
 use Rattle.expr_reader.specs.declared.written.Literal.TheVariants.{Constant as ConstantOf}
 use Rattle.sql_grammar.specs.declared.class.Symbol.TheVariants.{Minus}
-use Rattle.expr_reader.specs.Written.{literal_of, whole}
+use Rattle.expr_reader.specs.work.Written.{literal_of, whole}
 use Rattle.expr_reader.proofs.LiteralLemmas.{after-minus, constant-lit, number-left, no-text}
 use Rattle.expr_reader.proofs.literal.literal.Goals as goal
 

@@ -4,7 +4,7 @@ use Rattle.pg_expr.specs.declared.operand.ColRef.{ColRef}
 use Rattle.pg_expr.specs.Columns.{each_column}
 use Rattle.pg_expr.specs.Cond.{Cond}
 use Rattle.pg_expr.specs.Typed.{IsTyped}
-use Rattle.pg_expr.specs.View.{cond}
+use Rattle.pg_expr.specs.work.View.{cond}
 use Rattle.expr_reader.specs.Conditions.{meaning_of_expr}
 use Rattle.expr_reader.proofs.ReadsLemmas.{read-has}
 use Rattle.expr_reader.proofs.TypedLemmas.{expr-good}

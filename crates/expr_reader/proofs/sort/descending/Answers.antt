@@ -1,7 +1,7 @@
 use Rattle.std.proofs.Common.{◌∙◌, subst, refl}
 use Rattle.sql_grammar.specs.declared.class.Word.TheVariants.{Asc}
 use Rattle.sql_grammar.specs.Terminals.{t_key}
-use Rattle.expr_reader.specs.Reading.{BeginsNot}
+use Rattle.expr_reader.specs.work.Reading.{BeginsNot}
 use Rattle.expr_reader.proofs.SortLemmas.{neither}
 use Rattle.expr_reader.proofs.sort.descending.Goals as goal
 

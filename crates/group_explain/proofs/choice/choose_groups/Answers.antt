@@ -1,9 +1,9 @@
 use Rattle.std.proofs.Common.{subst, sym}
 use Rattle.std.specs.Prelude.{option_map}
-use Rattle.plan_tree.specs.Views.{path}
+use Rattle.plan_tree.specs.work.Views.{path}
 use Rattle.sql_query.specs.Grouped.{GroupedQuery}
-use Rattle.group_values.specs.GroupCosts.{IsTask}
-use Rattle.group_explain.specs.GroupPlans.{IsBestOf}
+use Rattle.group_values.specs.work.GroupCosts.{IsTask}
+use Rattle.group_explain.specs.work.GroupPlans.{IsBestOf}
 use Rattle.group_explain.proofs.ChoiceLemmas.{has-input, is-chosen, left, none-chosen}
 use Rattle.group_explain.proofs.OrderLemmas.{ready}
 use Rattle.group_explain.proofs.choice.choose_groups.Goals as goal

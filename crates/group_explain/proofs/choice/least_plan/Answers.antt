@@ -1,7 +1,7 @@
 use Rattle.std.proofs.Common.{subst}
 use Rattle.std.specs.Prelude.{option_map}
-use Rattle.plan_tree.specs.Views.{path}
-use Rattle.group_explain.specs.GroupPlans.{AreInputs}
+use Rattle.plan_tree.specs.work.Views.{path}
+use Rattle.group_explain.specs.work.GroupPlans.{AreInputs}
 use Rattle.group_explain.proofs.ChoiceLemmas.{lent}
 use Rattle.group_explain.proofs.choice.least_plan.Goals as goal
 

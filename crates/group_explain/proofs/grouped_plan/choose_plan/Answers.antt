@@ -1,6 +1,6 @@
 use Rattle.std.proofs.Common.{◌∙◌}
 use Rattle.std.specs.Prelude.{option_map}
-use Rattle.plan_tree.specs.Views.{path}
+use Rattle.plan_tree.specs.work.Views.{path}
 use Rattle.group_explain.proofs.GroupedPlanLemmas.{chosen-by, lent-cost}
 use Rattle.group_explain.proofs.grouped_plan.choose_plan.Goals as goal
 

@@ -2,7 +2,7 @@ use Rattle.std.proofs.Common.{length, refl, sym, subst, ap, arith}
 use Rattle.std.specs.Prelude.{not}
 use Rattle.pg_base.specs.Sets.{has}
 use Rattle.catalog.specs.Range.{Range}
-use Rattle.path_cost.specs.Columns.{AreTables}
+use Rattle.path_cost.specs.work.Columns.{AreTables}
 use Rattle.plan_laws.proofs.WellBoundLemmas.{bound-over}
 use Rattle.group_explain.proofs.DistinctLemmas.{distinct-all}
 use Rattle.group_explain.proofs.PlanTaskLemmas.{clauses-lent, none-covers, rows-are, task-is}

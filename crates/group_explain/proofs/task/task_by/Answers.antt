@@ -1,6 +1,6 @@
 use Rattle.std.proofs.Common.{◌<◌, length, sym, subst, ap, ◌∙◌}
 use Rattle.std.specs.Prelude.{All}
-use Rattle.pathkeys.specs.Finding.{class_numbers}
+use Rattle.pathkeys.specs.work.Finding.{class_numbers}
 use Rattle.sql_query.specs.Grouped.{GroupedQuery}
 use Rattle.group_explain.specs.GroupPlans.{group_keys}
 use Rattle.group_explain.specs.Texts.{group_query}

@@ -1,5 +1,5 @@
 use Rattle.std.proofs.Common.{◌≡◌, ◌++◌, drop, map}
-use Rattle.pathkeys.specs.Finding.{class_numbers}
+use Rattle.pathkeys.specs.work.Finding.{class_numbers}
 use Rattle.group_explain.specs.GroupPlans.{distinct_of}
 use Rattle.group_explain.proofs.task.values_of_each.Given as goal
 

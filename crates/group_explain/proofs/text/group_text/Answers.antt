@@ -1,6 +1,6 @@
 use Rattle.std.proofs.Common.{ℕ, List, ◌++◌, ap, ◌∙◌}
 use Rattle.reply.specs.explain_Texts.{text_at}
-use Rattle.plan_tree.specs.Views.{path}
+use Rattle.plan_tree.specs.work.Views.{path}
 use Rattle.sql_query.specs.Grouped.{GroupedQuery}
 use Rattle.group_explain.specs.Texts.{lines_above}
 use Rattle.group_explain.proofs.TextLemmas.{text-of, whole-text}

@@ -1,5 +1,5 @@
 use Rattle.std.proofs.lemmas.Result.{on_ok_weaker}
-use Rattle.plan_tree.specs.Views.{path}
+use Rattle.plan_tree.specs.work.Views.{path}
 use Rattle.group_explain.proofs.CostLemmas.{node-cost}
 use Rattle.group_explain.proofs.TextLemmas.{both-lines}
 use Rattle.group_explain.proofs.text.put_both_lines.Goals as goal

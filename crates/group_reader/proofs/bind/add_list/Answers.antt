@@ -1,7 +1,7 @@
 use Rattle.std.proofs.Common.{◌++◌, ◌+◌, Ok, drop, sym, ap, ◌∙◌, arith, append_assoc}
 use Rattle.catalog.specs.Range.{type_in}
-use Rattle.query_reader.specs.Scope.{visible_in}
-use Rattle.group_reader.specs.Meaning.{list_said, then_parts}
+use Rattle.query_reader.specs.work.Scope.{visible_in}
+use Rattle.group_reader.specs.work.Meaning.{list_said, then_parts}
 use Rattle.group_reader.proofs.AddLemmas.{adds-done, adds-ok, all-listed, list-stopped, next-listed, then-then}
 use Rattle.group_reader.proofs.bind.add_list.Goals as goal
 

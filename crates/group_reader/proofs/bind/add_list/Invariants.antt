@@ -1,8 +1,8 @@
 use Rattle.std.proofs.Common.{◌≡◌, List, ◌++◌, drop, Ok}
 use Rattle.catalog.specs.Range.{type_in}
-use Rattle.query_reader.specs.Scope.{visible_in}
+use Rattle.query_reader.specs.work.Scope.{visible_in}
 use Rattle.group_reader.specs.declared.parts.Part.{Part}
-use Rattle.group_reader.specs.Meaning.{list_said, then_parts}
+use Rattle.group_reader.specs.work.Meaning.{list_said, then_parts}
 use Rattle.group_reader.proofs.bind.add_list.Given as goal
 
 abbrev pub invariant-loop-listed : goal.invariant-loop-listed

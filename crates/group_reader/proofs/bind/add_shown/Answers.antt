@@ -1,6 +1,6 @@
 use Rattle.std.proofs.Common.{arith}
 use Rattle.expr_reader.proofs.SliceLemmas.{put-all, put-more}
-use Rattle.group_reader.specs.Meaning.{shown_at}
+use Rattle.group_reader.specs.work.Meaning.{shown_at}
 use Rattle.group_reader.proofs.bind.add_shown.Goals as goal
 
 pub loop-column-preserved : goal.loop-column-preserved

@@ -1,5 +1,5 @@
 use Rattle.std.proofs.Common.{◌≡◌, ◌++◌, drop, map}
-use Rattle.group_reader.specs.Meaning.{shown_at}
+use Rattle.group_reader.specs.work.Meaning.{shown_at}
 use Rattle.group_reader.proofs.bind.add_shown.Given as goal
 
 -- what is put so far, with what is left, is all

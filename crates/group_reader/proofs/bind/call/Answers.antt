@@ -1,5 +1,5 @@
 use Rattle.std.proofs.Common.{sym}
-use Rattle.query_reader.specs.Scope.{visible_in}
+use Rattle.query_reader.specs.work.Scope.{visible_in}
 use Rattle.group_reader.proofs.MeaningLemmas.{column-seen}
 use Rattle.group_reader.proofs.bind.call.Goals as goal
 

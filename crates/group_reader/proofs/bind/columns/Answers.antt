@@ -1,8 +1,8 @@
 use Rattle.std.proofs.Common.{◌≡◌, List, Vec, arith, refl, sym}
 use Rattle.std.specs.declared.alloc.Global.{Global}
 use Rattle.pg_expr.specs.declared.operand.ColRef.{ColRef}
-use Rattle.query_reader.specs.Scope.{visible_in}
-use Rattle.group_reader.specs.Meaning.{column_meant}
+use Rattle.query_reader.specs.work.Scope.{visible_in}
+use Rattle.group_reader.specs.work.Meaning.{column_meant}
 use Rattle.group_reader.proofs.AddLemmas.{bound-all, bound-fault, bound-first, bound-more, conveys-fault, conveys-memory, conveys-ok}
 use Rattle.group_reader.proofs.bind.columns.Goals as goal
 

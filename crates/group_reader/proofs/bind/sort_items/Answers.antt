@@ -3,9 +3,9 @@ use Rattle.std.specs.declared.alloc.Global.{Global}
 use Rattle.eq_classes.specs.declared.order.OrderItem.{OrderItem}
 use Rattle.pg_expr.specs.declared.operand.ColRef.{ColRef}
 use Rattle.expr_reader.specs.Lists.{bound_each}
-use Rattle.query_reader.specs.Conveys.{Conveys}
-use Rattle.query_reader.specs.Scope.{visible_in}
-use Rattle.group_reader.specs.Meaning.{sorting_said}
+use Rattle.query_reader.specs.work.Conveys.{Conveys}
+use Rattle.query_reader.specs.work.Scope.{visible_in}
+use Rattle.group_reader.specs.work.Meaning.{sorting_said}
 use Rattle.group_reader.proofs.bind.sort_items.Goals as goal
 
 pub returns : goal.returns

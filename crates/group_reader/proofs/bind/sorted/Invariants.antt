@@ -1,7 +1,7 @@
 use Rattle.std.proofs.Common.{◌≡◌, drop}
 use Rattle.expr_reader.specs.Lists.{bound_each}
-use Rattle.query_reader.specs.Scope.{visible_in}
-use Rattle.group_reader.specs.Meaning.{sorting_said}
+use Rattle.query_reader.specs.work.Scope.{visible_in}
+use Rattle.group_reader.specs.work.Meaning.{sorting_said}
 use Rattle.group_reader.proofs.AddLemmas.{onward}
 use Rattle.group_reader.proofs.bind.sorted.Given as goal
 

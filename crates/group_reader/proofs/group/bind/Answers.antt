@@ -8,8 +8,9 @@ use Rattle.expr_reader.proofs.StepLemmas.{step, stop}
 use Rattle.query_reader.specs.From.{Joined, nothing_joined, with_groups}
 use Rattle.query_reader.proofs.GrowLemmas.{some-groups}
 use Rattle.query_reader.proofs.SourceLemmas.{into-fault, was-into}
-use Rattle.group_reader.specs.Binding.{BoundGroups, grouper, groups_over}
-use Rattle.group_reader.specs.Selected.{IsGroupedAs, IsGroupedByItself}
+use Rattle.group_reader.specs.Binding.{BoundGroups, groups_over}
+use Rattle.group_reader.specs.work.Binding.{grouper}
+use Rattle.group_reader.specs.work.Selected.{IsGroupedAs, IsGroupedByItself}
 use Rattle.group_reader.proofs.OverLemmas.{groups-from, stopped}
 use Rattle.group_reader.proofs.group.bind.Goals as goal
 

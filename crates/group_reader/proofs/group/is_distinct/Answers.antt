@@ -1,5 +1,5 @@
 use Rattle.std.proofs.Common.{ap, drop, refl, ◌∙◌}
-use Rattle.group_reader.specs.Reads.{begins_distinct}
+use Rattle.group_reader.specs.work.Reads.{begins_distinct}
 use Rattle.group_reader.proofs.OverLemmas.{no-distinct}
 use Rattle.group_reader.proofs.group.is_distinct.Goals as goal
 

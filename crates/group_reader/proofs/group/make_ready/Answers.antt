@@ -2,26 +2,27 @@ use Rattle.std.proofs.Common.{◌≡◌, ℕ, ◌++◌, All, List, Option, Resul
 use Rattle.pg_base.specs.declared.faults.Fault.{Fault}
 use Rattle.pg_base.specs.declared.faults.Limit.{Limit}
 use Rattle.pg_expr.specs.Cond.{Cond}
-use Rattle.pg_expr.specs.View.{cond}
+use Rattle.pg_expr.specs.work.View.{cond}
 use Rattle.pg_expr.specs.declared.operand.ColRef.{ColRef}
 use Rattle.catalog.specs.Range.{type_in}
 use Rattle.eq_classes.specs.Classes.{conjuncts_in}
 use Rattle.eq_classes.specs.Clauses.{ClassTable}
 use Rattle.eq_classes.specs.Holding.{IsClassTable}
 use Rattle.eq_classes.specs.declared.order.OrderItem.{OrderItem}
-use Rattle.path_cost.specs.Columns.{is_column_in}
+use Rattle.path_cost.specs.work.Columns.{is_column_in}
 use Rattle.expr_reader.specs.Conditions.{next}
 use Rattle.expr_reader.proofs.StepLemmas.{step}
 use Rattle.group_query.specs.Grouping.{plain_item}
 use Rattle.query_reader.specs.Binding.{limited, past_limit}
-use Rattle.query_reader.specs.Scope.{Sight, scope_of, visible_in}
+use Rattle.query_reader.specs.Scope.{scope_of}
+use Rattle.query_reader.specs.work.Scope.{Sight, visible_in}
 use Rattle.query_reader.proofs.QueryLemmas.{within}
 use Rattle.group_reader.specs.declared.group.Ready.{Ready}
 use Rattle.group_reader.specs.declared.lists.Lists.{Lists}
 use Rattle.group_reader.specs.declared.parts.Part.{Part}
 use Rattle.group_reader.specs.Binding.{BoundLists, item_in, named_in_lists}
-use Rattle.group_reader.specs.Meaning.{column_meant, lists_said}
-use Rattle.group_reader.specs.Seen.{IsReady, lists_of}
+use Rattle.group_reader.specs.work.Meaning.{column_meant, lists_said}
+use Rattle.group_reader.specs.work.Seen.{IsReady, lists_of}
 use Rattle.group_reader.proofs.AddLemmas.{conveys-ok, was-conveyed}
 use Rattle.group_reader.proofs.WellLemmas.{are-lists, each-length, items-over}
 use Rattle.group_reader.proofs.group.make_ready.Goals as goal

@@ -3,12 +3,12 @@ use Rattle.std.proofs.lemmas.List.Elements.{All-append}
 use Rattle.pg_base.specs.Names.{IsName}
 use Rattle.pg_base.specs.declared.faults.Fault.{Fault}
 use Rattle.pg_expr.specs.Cond.{Cond}
-use Rattle.pg_expr.specs.View.{cond}
+use Rattle.pg_expr.specs.work.View.{cond}
 use Rattle.pg_expr.specs.declared.expr.Exprs.{Exprs}
 use Rattle.catalog.specs.Range.{Range, type_in}
 use Rattle.eq_classes.specs.Classes.{conjuncts_in}
 use Rattle.eq_classes.specs.Holding.{IsClassTable}
-use Rattle.path_cost.specs.Columns.{IsOver}
+use Rattle.path_cost.specs.work.Columns.{IsOver}
 use Rattle.sql_grammar.specs.Words.{words_of_group_by, words_of_order, words_of_where}
 use Rattle.expr_reader.specs.Conditions.{next}
 use Rattle.expr_reader.proofs.ReadsLemmas.{was-read}
@@ -16,13 +16,14 @@ use Rattle.sql_query.specs.Grouped.{GroupedQuery}
 use Rattle.group_query.specs.Grouping.{plain_item}
 use Rattle.query_reader.specs.Binding.{conjuncts_written, limited, past_limit}
 use Rattle.query_reader.specs.From.{Joined}
-use Rattle.query_reader.specs.Scope.{Sight, visible_in}
+use Rattle.query_reader.specs.work.Scope.{Sight, visible_in}
 use Rattle.query_reader.proofs.QueryLemmas.{both-conjuncts, conveys-fault, reads-fault}
 use Rattle.group_reader.specs.declared.group.Ready.{Ready}
-use Rattle.group_reader.specs.Binding.{BoundGroups, BoundLists, grouper}
-use Rattle.group_reader.specs.Meaning.{lists_said}
-use Rattle.group_reader.specs.Seen.{IsReady, grouped_of}
-use Rattle.group_reader.specs.Selected.{IsGroupedByItself}
+use Rattle.group_reader.specs.Binding.{BoundGroups, BoundLists}
+use Rattle.group_reader.specs.work.Binding.{grouper}
+use Rattle.group_reader.specs.work.Meaning.{lists_said}
+use Rattle.group_reader.specs.work.Seen.{IsReady, grouped_of}
+use Rattle.group_reader.specs.work.Selected.{IsGroupedByItself}
 use Rattle.group_reader.proofs.AddLemmas.{was-conveyed}
 use Rattle.group_reader.proofs.OverLemmas.{at-joined, conjuncts-wrong, few-columns, groups-where, lists-meant, lists-wrong, made-so, own-classes, read-so, stopped, within}
 use Rattle.group_reader.proofs.WellLemmas.{are-lists, grouped-of-lists}

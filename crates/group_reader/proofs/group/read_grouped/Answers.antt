@@ -14,10 +14,11 @@ use Rattle.expr_reader.specs.Conditions.{next}
 use Rattle.query_reader.specs.From.{nothing_joined, with_groups}
 use Rattle.query_reader.proofs.AliasLemmas.{after-words}
 use Rattle.query_reader.proofs.ReadingLemmas.{at-start, some-token}
-use Rattle.group_reader.specs.Binding.{grouper, groups_over}
-use Rattle.group_reader.specs.Reads.{begins_distinct}
-use Rattle.group_reader.specs.Selected.{IsGroupedAs, IsGroupedByItself}
-use Rattle.group_reader.specs.Written.{listed_of}
+use Rattle.group_reader.specs.Binding.{groups_over}
+use Rattle.group_reader.specs.work.Binding.{grouper}
+use Rattle.group_reader.specs.work.Reads.{begins_distinct}
+use Rattle.group_reader.specs.work.Selected.{IsGroupedAs, IsGroupedByItself}
+use Rattle.group_reader.specs.work.Written.{listed_of}
 use Rattle.group_reader.proofs.OverLemmas.{behind-length, behind-named, each-listed, ending-window, few-items, left-named, named-groups, parted}
 use Rattle.group_reader.proofs.group.read_grouped.Goals as goal
 

@@ -11,13 +11,13 @@ use Rattle.sql_grammar.specs.Faults.{fault_at}
 use Rattle.expr_reader.specs.Lists.{bound_each}
 use Rattle.expr_reader.specs.Conditions.{next}
 use Rattle.expr_reader.proofs.StepLemmas.{step}
-use Rattle.query_reader.specs.Scope.{Sight, visible_in}
+use Rattle.query_reader.specs.work.Scope.{Sight, visible_in}
 use Rattle.group_reader.specs.declared.lists.Lists.{Lists}
 use Rattle.group_reader.specs.declared.parts.Part.{Part}
 use Rattle.group_reader.specs.declared.written.Sorting.{Sorting}
 use Rattle.group_reader.specs.Binding.{BoundLists, all_grouped, shown_columns, ungrouped_items, ungrouped_part}
-use Rattle.group_reader.specs.Meaning.{first_of, keys_said, last_word, list_said, lists_said, sorting_said}
-use Rattle.group_reader.specs.Seen.{lists_of}
+use Rattle.group_reader.specs.work.Meaning.{first_of, keys_said, last_word, list_said, lists_said, sorting_said}
+use Rattle.group_reader.specs.work.Seen.{lists_of}
 use Rattle.group_reader.proofs.AddLemmas.{adds-ok, conveys-fault, conveys-ok, was-conveyed}
 use Rattle.group_reader.proofs.FoundLemmas.{told-first, told-none}
 use Rattle.group_reader.proofs.lists.bound_lists.Goals as goal

@@ -1,6 +1,6 @@
 use Rattle.std.proofs.Common.{◌≡◌, drop, map}
 use Rattle.group_reader.specs.Binding.{ungrouped_items}
-use Rattle.group_reader.specs.Meaning.{first_of, last_word}
+use Rattle.group_reader.specs.work.Meaning.{first_of, last_word}
 use Rattle.group_reader.proofs.lists.first_item.Given as goal
 
 abbrev pub invariant-loop-n : goal.invariant-loop-n

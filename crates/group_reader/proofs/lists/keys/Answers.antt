@@ -1,6 +1,6 @@
 use Rattle.std.proofs.Common.{ap, arith, length}
-use Rattle.query_reader.specs.Scope.{visible_in}
-use Rattle.group_reader.specs.Meaning.{column_meant}
+use Rattle.query_reader.specs.work.Scope.{visible_in}
+use Rattle.group_reader.specs.work.Meaning.{column_meant}
 use Rattle.group_reader.proofs.WellLemmas.{few-bound}
 use Rattle.group_reader.proofs.lists.keys.Goals as goal
 

@@ -3,7 +3,7 @@ use Rattle.sql_grammar.specs.Terminals.{t_mark}
 use Rattle.sql_grammar.specs.declared.class.Symbol.TheVariants.{Close}
 use Rattle.group_reader.specs.declared.written.Column.{Column}
 use Rattle.group_reader.specs.declared.written.Listed.TheVariants.{OverColumn}
-use Rattle.group_reader.specs.Written.{called_over}
+use Rattle.group_reader.specs.work.Written.{called_over}
 use Rattle.group_reader.proofs.WordLemmas.{of-col}
 use Rattle.group_reader.proofs.read.call.Goals as goal
 

@@ -1,7 +1,7 @@
 use Rattle.std.proofs.Common.{[], ◌∷◌, ◌++◌, refl, sym, ap, ◌∙◌, append-nil}
 use Rattle.sql_grammar.specs.Words.{words_of_col, words_of_group_columns}
 use Rattle.expr_reader.specs.Lists.{further_parts}
-use Rattle.group_reader.specs.Written.{column_written}
+use Rattle.group_reader.specs.work.Written.{column_written}
 use Rattle.group_reader.proofs.WordLemmas.{columns-comma, columns-operand, next-part, no-part, pushed}
 use Rattle.group_reader.proofs.read.columns.Goals as goal
 

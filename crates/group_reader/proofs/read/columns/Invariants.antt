@@ -3,8 +3,8 @@ use Rattle.sql_grammar.specs.Terminals.{Terminal}
 use Rattle.sql_grammar.specs.Syntax.{Mark, Col}
 use Rattle.sql_grammar.specs.Words.{words_of_col, words_of_group_columns}
 use Rattle.expr_reader.specs.Lists.{further_parts}
-use Rattle.group_reader.specs.Ends.{ends_columns}
-use Rattle.group_reader.specs.Written.{column_written}
+use Rattle.group_reader.specs.work.Ends.{ends_columns}
+use Rattle.group_reader.specs.work.Written.{column_written}
 use Rattle.group_reader.proofs.read.columns.Given as goal
 
 abbrev pub invariant-more : goal.invariant-more

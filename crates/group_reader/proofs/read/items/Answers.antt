@@ -3,7 +3,7 @@ use Rattle.sql_grammar.specs.Terminals.{t_key}
 use Rattle.sql_grammar.specs.declared.class.Word.TheVariants.{From}
 use Rattle.sql_grammar.specs.Words.{words_of_grouped_item, words_of_grouped_items}
 use Rattle.expr_reader.specs.Lists.{further_parts}
-use Rattle.group_reader.specs.Written.{listed_of}
+use Rattle.group_reader.specs.work.Written.{listed_of}
 use Rattle.group_reader.proofs.WordLemmas.{from-comma, items-listed, next-part, no-part, pushed}
 use Rattle.group_reader.proofs.read.items.Goals as goal
 

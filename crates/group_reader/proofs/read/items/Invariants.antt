@@ -4,7 +4,7 @@ use Rattle.sql_grammar.specs.declared.class.Word.TheVariants.{From}
 use Rattle.sql_grammar.specs.Syntax.{Key, Mark, GroupedItem}
 use Rattle.sql_grammar.specs.Words.{words_of_grouped_item, words_of_grouped_items}
 use Rattle.expr_reader.specs.Lists.{further_parts}
-use Rattle.group_reader.specs.Written.{listed_of}
+use Rattle.group_reader.specs.work.Written.{listed_of}
 use Rattle.group_reader.proofs.read.items.Given as goal
 
 abbrev pub invariant-more : goal.invariant-more

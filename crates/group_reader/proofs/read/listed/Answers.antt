@@ -4,9 +4,9 @@ use Rattle.sql_grammar.specs.Syntax.{GroupedItem}
 use Rattle.sql_grammar.specs.Terminals.{t_mark, t_name}
 use Rattle.sql_grammar.specs.Words.{words_of_grouped_item}
 use Rattle.sql_grammar.specs.declared.class.Symbol.TheVariants.{Open, Star}
-use Rattle.expr_reader.specs.Reading.{BeginsNot}
+use Rattle.expr_reader.specs.work.Reading.{BeginsNot}
 use Rattle.query_reader.proofs.OrderLemmas.{second-name}
-use Rattle.group_reader.specs.Written.{listed_of}
+use Rattle.group_reader.specs.work.Written.{listed_of}
 use Rattle.group_reader.proofs.WordLemmas.{begins-named, every-listed, listed-item, no-call}
 use Rattle.group_reader.proofs.read.listed.Goals as goal
 

@@ -2,7 +2,7 @@ use Rattle.std.proofs.Common.{[], ◌∷◌, ◌++◌, refl, sym, ap, ◌∙◌,
 use Rattle.sql_grammar.specs.Words.{words_of_ordering, words_of_orderings}
 use Rattle.expr_reader.specs.Lists.{further_parts}
 use Rattle.query_reader.proofs.OrderLemmas.{more-orders}
-use Rattle.group_reader.specs.Written.{sorting_of}
+use Rattle.group_reader.specs.work.Written.{sorting_of}
 use Rattle.group_reader.proofs.WordLemmas.{order-comma, next-part, no-part, pushed}
 use Rattle.group_reader.proofs.read.sortings.Goals as goal
 

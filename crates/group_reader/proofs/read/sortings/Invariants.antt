@@ -3,8 +3,8 @@ use Rattle.sql_grammar.specs.Terminals.{Terminal}
 use Rattle.sql_grammar.specs.Syntax.{Mark, Ordering}
 use Rattle.sql_grammar.specs.Words.{words_of_ordering, words_of_orderings}
 use Rattle.expr_reader.specs.Lists.{further_parts}
-use Rattle.query_reader.specs.Ends.{ends_order}
-use Rattle.group_reader.specs.Written.{sorting_of}
+use Rattle.query_reader.specs.work.Ends.{ends_order}
+use Rattle.group_reader.specs.work.Written.{sorting_of}
 use Rattle.group_reader.proofs.read.sortings.Given as goal
 
 abbrev pub invariant-more : goal.invariant-more

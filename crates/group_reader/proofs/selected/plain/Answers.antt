@@ -1,7 +1,7 @@
 use Rattle.std.proofs.Common.{Ok, sym, subst}
 use Rattle.query_reader.specs.Binding.{bound_part}
 use Rattle.group_reader.specs.declared.selected.Selected.TheVariants.{Plain}
-use Rattle.group_reader.specs.Selected.{IsReadPlain}
+use Rattle.group_reader.specs.work.Selected.{IsReadPlain}
 use Rattle.group_reader.proofs.FormLemmas.{bound-at, part_of, plain-read, plain-refused, select-at}
 use Rattle.group_reader.proofs.selected.plain.Goals as goal
 

@@ -1,14 +1,14 @@
 use Rattle.std.proofs.Common.{◌≡◌, ◌∙◌, List, All, refl, subst, sym}
 use Rattle.std.proofs.lemmas.Result.{on_err_weaker, on_ok_weaker}
 use Rattle.sql_query.specs.Tuples.{Tuple}
-use Rattle.plan_tree.specs.Views.{path}
-use Rattle.executor.specs.Numbers.{IsTupleOf}
-use Rattle.group_values.specs.Neighbours.{AreTogether}
+use Rattle.plan_tree.specs.work.Views.{path}
+use Rattle.executor.specs.work.Numbers.{IsTupleOf}
+use Rattle.group_values.specs.work.Neighbours.{AreTogether}
 use Rattle.group_values.specs.declared.form.Form.TheVariants.{Sorted}
-use Rattle.group_explain.specs.Plans.{input_base}
+use Rattle.group_explain.specs.work.Plans.{input_base}
 use Rattle.pg_base.proofs.OptionLemmas.{on-err as on_err}
 use Rattle.group_explain.specs.reply_Settings.{world_of}
-use Rattle.group_reply.specs.Drawing.{drawn_reply, seen_all}
+use Rattle.group_reply.specs.work.Drawing.{drawn_reply, seen_all}
 use Rattle.group_reply.proofs.DrawnLemmas.{begun-drawing, begun-drawn, begun-none, replied-drawn}
 use Rattle.group_reply.proofs.answer.answer_by.Goals as goal
 

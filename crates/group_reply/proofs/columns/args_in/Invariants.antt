@@ -1,5 +1,5 @@
 use Rattle.std.proofs.Common.{◌≡◌, map, take}
-use Rattle.group_reply.specs.Columns.{arg_in}
+use Rattle.group_reply.specs.work.Columns.{arg_in}
 use Rattle.group_reply.proofs.columns.args_in.Given as goal
 
 abbrev pub invariant-loop-arg : goal.invariant-loop-arg

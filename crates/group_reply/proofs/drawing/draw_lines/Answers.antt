@@ -1,7 +1,7 @@
 use Rattle.std.proofs.Common.{◌∙◌, ap}
 use Rattle.sql_query.specs.Grouped.{GroupedQuery}
 use Rattle.group_values.specs.Shapes.{GroupShape}
-use Rattle.group_values.specs.Grouping.{Grouping}
+use Rattle.group_values.specs.work.Grouping.{Grouping}
 use Rattle.group_explain.specs.reply_Settings.{world_of}
 use Rattle.group_reply.proofs.ShapeLemmas.{as-many-of, together-by}
 use Rattle.group_reply.proofs.drawing.draw_lines.Goals as goal

@@ -1,4 +1,4 @@
-use Rattle.executor.specs.Numbers.{numbers}
+use Rattle.executor.specs.work.Numbers.{numbers}
 use Rattle.group_explain.specs.reply_Settings.{world_of}
 use Rattle.group_explain.specs.reply_DrawingLemmas.{next_is, rest_are, some_left}
 use Rattle.group_runs.specs.Seen.{seen_of}

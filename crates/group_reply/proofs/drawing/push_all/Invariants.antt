@@ -1,5 +1,5 @@
 use Rattle.std.proofs.Common.{All, length}
-use Rattle.executor.specs.Numbers.{IsTupleOf}
+use Rattle.executor.specs.work.Numbers.{IsTupleOf}
 use Rattle.group_explain.specs.reply_Settings.{world_of}
 use Rattle.group_runs.specs.Seen.{seen_of}
 use Rattle.group_reply.proofs.PushLemmas.{HasPushed}

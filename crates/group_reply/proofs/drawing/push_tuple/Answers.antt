@@ -1,13 +1,13 @@
 use Rattle.std.proofs.Common.{◌≡◌, ◌++◌, ◌∷◌, [], List, ◌∙◌, ap, map, subst, sym, OnOk}
 use Rattle.group_values.specs.Groups.{Seen}
 use Rattle.group_values.specs.declared.form.Form.TheVariants.{Sorted}
-use Rattle.group_values.specs.Grouping.{AreOf}
-use Rattle.group_values.specs.Steps.{IsLastAlone}
-use Rattle.executor.specs.Numbers.{numbers}
+use Rattle.group_values.specs.work.Grouping.{AreOf}
+use Rattle.group_values.specs.work.Steps.{IsLastAlone}
+use Rattle.executor.specs.work.Numbers.{numbers}
 use Rattle.group_explain.specs.reply_RowLemmas.{now}
 use Rattle.group_explain.specs.reply_Settings.{world_of}
 use Rattle.group_runs.specs.Seen.{seen_of}
-use Rattle.group_reply.specs.Columns.{arg_in}
+use Rattle.group_reply.specs.work.Columns.{arg_in}
 use Rattle.group_reply.proofs.SeenLemmas.{calls-there, keys-there, seen-is}
 use Rattle.group_reply.proofs.drawing.push_tuple.Goals as goal
 

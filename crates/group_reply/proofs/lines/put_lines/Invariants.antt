@@ -1,7 +1,7 @@
 use Rattle.std.proofs.Common.{◌≡◌, take}
 use Rattle.std.specs.List.{flat_map}
 use Rattle.reply_text.specs.Texts.{row_line}
-use Rattle.group_explain.specs.reply_Putting.{HasPut}
+use Rattle.group_explain.specs.reply_work_Putting.{HasPut}
 use Rattle.group_reply.proofs.lines.put_lines.Given as goal
 
 abbrev pub invariant-loop-line : goal.invariant-loop-line

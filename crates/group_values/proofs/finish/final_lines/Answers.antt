@@ -2,7 +2,7 @@ use Rattle.std.proofs.Common.{◌≡◌, map, ap, ap₂, ◌∙◌}
 use Rattle.std.proofs.lemmas.Result.{IfOk-weaker}
 use Rattle.group_values.specs.Groups.{line, lines_of_groups}
 use Rattle.group_values.specs.Shapes.{GroupShape}
-use Rattle.group_values.specs.Grouping.{final_shape}
+use Rattle.group_values.specs.work.Grouping.{final_shape}
 use Rattle.group_values.proofs.FinalLemmas.{lines-as-they-are}
 use Rattle.group_values.proofs.finish.final_lines.Goals as goal
 

@@ -3,7 +3,7 @@ use Rattle.std.proofs.Common.{ap, sym, ◌∙◌, arith}
 use Rattle.std.specs.List.{fold, flat_map}
 use Rattle.std.specs.Hash.FoldHasher.{finish, write}
 use Rattle.std.proofs.Math.ListN.{drop_of_length-le}
-use Rattle.group_values.specs.Hash.{fed, hash_of}
+use Rattle.group_values.specs.work.Hash.{fed, hash_of}
 use Rattle.group_values.proofs.hash.hash_keys.Goals as goal
 
 pub returns : goal.returns

@@ -1,5 +1,5 @@
 use Rattle.std.proofs.Common.{◌≡◌, drop}
-use Rattle.group_values.specs.Steps.{have_room}
+use Rattle.group_values.specs.work.Steps.{have_room}
 use Rattle.group_values.proofs.kept.have_room.Given as goal
 
 abbrev pub invariant-loop-n : goal.invariant-loop-n

@@ -1,7 +1,7 @@
 use Rattle.std.proofs.Common.{set, get_or, ap, ◌∙◌, arith}
 use Rattle.std.proofs.lemmas.List.Edits.{map_over_more}
 use Rattle.std.proofs.lemmas.List.{get_or_default}
-use Rattle.hash_index.specs.Groups.{below}
+use Rattle.hash_index.specs.work.Groups.{below}
 use Rattle.hash_index.proofs.chains.cut_each.Goals as goal
 
 pub loop-slot-preserved : goal.loop-slot-preserved

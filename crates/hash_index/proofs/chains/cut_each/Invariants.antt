@@ -1,5 +1,5 @@
 use Rattle.std.proofs.Common.{◌≡◌, ◌++◌, map, take, drop}
-use Rattle.hash_index.specs.Groups.{below}
+use Rattle.hash_index.specs.work.Groups.{below}
 use Rattle.hash_index.proofs.chains.cut_each.Given as goal
 
 abbrev pub invariant-loop-slot : goal.invariant-loop-slot

@@ -5,7 +5,7 @@ use Rattle.std.proofs.lemmas.Cmp.{on_total, nat_cmp_total}
 use Rattle.std.proofs.lemmas.List.Sorted.{IsPartitionPoint-from_clause}
 use Rattle.pg_base.specs.declared.numbers.Tid.{Tid}
 use Rattle.pg_value.proofs.SortingLemmas.{before_first, in_order_is, placed_in_order}
-use Rattle.hash_index.specs.Groups.{AreRising}
+use Rattle.hash_index.specs.work.Groups.{AreRising}
 use Rattle.hash_index.proofs.group.place_of.Goals as goal
 
 pub returns-clause-rising : goal.returns-clause-rising

@@ -1,8 +1,8 @@
 -- After each row all those put in can be taken out again.
 use Rattle.std.proofs.Common.{◌∷◌, ap, sym, subst, ◌∙◌}
-use Rattle.hash_index.specs.Chains.{IsWider, taken_back}
-use Rattle.hash_index.specs.Groups.{held_by, without_at}
-use Rattle.hash_index.specs.Held.{Held}
+use Rattle.hash_index.specs.work.Chains.{IsWider, taken_back}
+use Rattle.hash_index.specs.work.Groups.{held_by, without_at}
+use Rattle.hash_index.specs.work.Held.{Held}
 use Rattle.hash_index.proofs.GroupLemmas.{without_many, without_value}
 use Rattle.hash_index.proofs.PlaceLemmas.{one_added, refused_back}
 use Rattle.hash_index.proofs.SlotLemmas.{chained_kept, chained_same}

@@ -1,4 +1,4 @@
-use Rattle.hash_index.specs.Chains.{AreChained}
+use Rattle.hash_index.specs.work.Chains.{AreChained}
 use Rattle.hash_index.proofs.PlaceLemmas.{AreAdded}
 use Rattle.hash_index.proofs.index.put_all.Given as goal
 

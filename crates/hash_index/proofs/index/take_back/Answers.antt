@@ -2,7 +2,7 @@
 use Rattle.std.proofs.Common.{◌<◌, ap, sym, length, ◌∙◌, arith}
 use Rattle.std.proofs.lemmas.List.{nil_from_length}
 use Rattle.hash_index.specs.declared.chains.Place.{Place}
-use Rattle.hash_index.specs.Chains.{taken_back}
+use Rattle.hash_index.specs.work.Chains.{taken_back}
 use Rattle.hash_index.proofs.GroupLemmas.{without_many}
 use Rattle.hash_index.proofs.PlaceLemmas.{last_in, taken_push, within_more}
 use Rattle.hash_index.proofs.index.take_back.Goals as goal

@@ -1,7 +1,7 @@
 use Rattle.std.proofs.Common.{◌≡◌, ◌<◌, length}
 use Rattle.std.specs.Prelude.{All}
 use Rattle.hash_index.specs.declared.chains.Place.{Place}
-use Rattle.hash_index.specs.Chains.{taken_back}
+use Rattle.hash_index.specs.work.Chains.{taken_back}
 use Rattle.hash_index.proofs.index.take_back.Given as goal
 
 abbrev pub invariant-loop-place : goal.invariant-loop-place

@@ -4,7 +4,8 @@ use Rattle.std.proofs.lemmas.Result.{err_from_is_err_and}
 use Rattle.csv.specs.Records.{fields_of}
 use Rattle.pg_value.specs.declared.value.Value.{Value}
 use Rattle.heap.specs.declared.fault.CopyFault.{CopyFault}
-use Rattle.heap.specs.Loading.{appended, first_fault_or_all, values_from}
+use Rattle.heap.specs.Loading.{first_fault_or_all, values_from}
+use Rattle.heap.specs.work.Loading.{appended}
 use Rattle.heap.specs.Stored.{Values}
 use Rattle.heap.proofs.Rows.{row_full, row_arity, row_values, values-more, values-all, prepended, prepended-more, prepended-none, zip-more}
 use Rattle.heap.proofs.AppendedLemmas.{appended-none, appended-push, kept-none, kept-push}

@@ -1,7 +1,8 @@
 use Rattle.std.proofs.Common.{◌≡◌, ◌+◌, take, drop}
 use Rattle.std.specs.List.{AllZip}
 use Rattle.csv.specs.Records.{fields_of}
-use Rattle.heap.specs.Loading.{BeginsWith, appended, values_from}
+use Rattle.heap.specs.Loading.{values_from}
+use Rattle.heap.specs.work.Loading.{BeginsWith, appended}
 use Rattle.heap.specs.Stored.{IsColumnValue}
 use Rattle.heap.proofs.Rows.{prepended}
 use Rattle.heap.proofs.load.read_row.Given as goal

@@ -5,9 +5,10 @@ use Rattle.csv.specs.Reading.{Reached, default_config, strip_bom}
 use Rattle.csv.specs.Records.{fields_of}
 use Rattle.csv.specs.declared.parser.State.TheVariants as st
 use Rattle.csv.proofs.ReadFacts.{rows-end, rows-more}
-use Rattle.heap.specs.Loading.{appended, row, appended_rows, rows_from}
+use Rattle.heap.specs.Loading.{row, rows_from}
+use Rattle.heap.specs.work.Loading.{appended, appended_rows}
 use Rattle.heap.specs.Stored.{IsRowOf, Values}
-use Rattle.heap.specs.Tuples.{runs_of}
+use Rattle.heap.specs.work.Tuples.{runs_of}
 use Rattle.heap.proofs.AppendedLemmas.{kept-none, kept-then, longer, rows-push}
 use Rattle.heap.proofs.Records.{all_records}
 use Rattle.heap.proofs.Rows.{rows-one, rows-refused, zip_length}

@@ -3,7 +3,8 @@ use Rattle.std.specs.List.{All}
 use Rattle.csv.specs.Reading.{Reached, Ready, default_config, source_of, strip_bom}
 use Rattle.csv.specs.declared.parser.State.TheVariants as st
 use Rattle.csv.specs.declared.reader.Trim.TheVariants as trim
-use Rattle.heap.specs.Loading.{BeginsWith, appended_rows, rows_from}
+use Rattle.heap.specs.Loading.{rows_from}
+use Rattle.heap.specs.work.Loading.{BeginsWith, appended_rows}
 use Rattle.heap.specs.Stored.{IsRowOf}
 use Rattle.heap.proofs.load.read_rows.Given as goal
 

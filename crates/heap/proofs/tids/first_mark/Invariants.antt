@@ -1,5 +1,5 @@
 use Rattle.std.proofs.Common.{◌≡◌, ◌<◌, ◌≤◌, ◌/◌, ℕ, false}
-use Rattle.heap.specs.TidSets.{is_marked}
+use Rattle.heap.specs.work.TidSets.{is_marked}
 use Rattle.heap.proofs.tids.first_mark.Given as goal
 
 abbrev pub invariant-loop-place : goal.invariant-loop-place

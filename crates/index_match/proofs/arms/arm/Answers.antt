@@ -1,9 +1,9 @@
 use Rattle.std.proofs.Common.{◌≤◌, length, Some, sym, ◌∙◌, arith}
 use Rattle.std.proofs.lemmas.List.{length-map}
-use Rattle.pg_expr.specs.AtomSets.{contains}
-use Rattle.pg_expr.specs.View.{cond}
+use Rattle.pg_expr.specs.work.AtomSets.{contains}
+use Rattle.pg_expr.specs.work.View.{cond}
 use Rattle.catalog.specs.Contents.{index_at}
-use Rattle.catalog.specs.Entries.{index_of}
+use Rattle.catalog.specs.work.Entries.{index_of}
 use Rattle.index_match.proofs.ArmLemmas.{few_of_arm, matched_arm, bounds_of_arm}
 use Rattle.index_match.proofs.arms.arm.Goals as goal
 

@@ -1,5 +1,5 @@
 use Rattle.std.proofs.Common.{map}
-use Rattle.pg_expr.specs.View.{cond}
+use Rattle.pg_expr.specs.work.View.{cond}
 use Rattle.index_match.proofs.ArmLemmas.{and_arm}
 use Rattle.index_match.proofs.arms.arm_parts.Goals as goal
 

@@ -1,6 +1,6 @@
 use Rattle.std.proofs.Common.{◌≡◌, ℕ, ◌||◌, drop}
-use Rattle.pg_expr.specs.AtomSets.{contains}
-use Rattle.index_match.specs.Slots.{bound_at, slots_of}
+use Rattle.pg_expr.specs.work.AtomSets.{contains}
+use Rattle.index_match.specs.work.Slots.{bound_at, slots_of}
 use Rattle.index_match.proofs.bounds.bounds.Given as goal
 
 abbrev pub invariant-loop-key : goal.invariant-loop-key

@@ -1,7 +1,7 @@
 use Rattle.std.proofs.Common.{◌≡◌, drop}
 use Rattle.std.specs.List.{position_from}
-use Rattle.index_match.specs.Slots as slots
-use Rattle.index_match.specs.Slots.{slots_of}
+use Rattle.index_match.specs.work.Slots as slots
+use Rattle.index_match.specs.work.Slots.{slots_of}
 use Rattle.index_match.proofs.bounds.first_fixing.Given as goal
 
 abbrev pub invariant-loop-n : goal.invariant-loop-n

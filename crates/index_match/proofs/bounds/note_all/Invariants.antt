@@ -1,7 +1,7 @@
 use Rattle.std.proofs.Common.{◌≡◌, ℕ, None, ◌&&◌, ◌||◌, nat_lt, slice_index_or}
-use Rattle.pg_expr.specs.AtomSets.{contains}
-use Rattle.index_match.specs.Slots as slots
-use Rattle.index_match.specs.Slots.{slots_of}
+use Rattle.pg_expr.specs.work.AtomSets.{contains}
+use Rattle.index_match.specs.work.Slots as slots
+use Rattle.index_match.specs.work.Slots.{slots_of}
 use Rattle.index_match.proofs.bounds.note_all.Given as goal
 
 abbrev pub invariant-loop-n : goal.invariant-loop-n

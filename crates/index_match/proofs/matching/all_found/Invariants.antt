@@ -1,9 +1,9 @@
 use Rattle.std.proofs.Common.{◌≡◌, ℕ, ◌&&◌, nat_lt}
 use Rattle.pg_base.specs.Sets.{has}
-use Rattle.pg_expr.specs.AtomSets.{contains}
-use Rattle.catalog.specs.Entries.{index_of}
+use Rattle.pg_expr.specs.work.AtomSets.{contains}
+use Rattle.catalog.specs.work.Entries.{index_of}
 use Rattle.eq_classes.specs.Listing.{clause_at}
-use Rattle.index_match.specs.Slots.{is_found}
+use Rattle.index_match.specs.work.Slots.{is_found}
 use Rattle.index_match.proofs.matching.all_found.Given as goal
 
 abbrev pub invariant-loop-n : goal.invariant-loop-n

@@ -1,7 +1,7 @@
 use Rattle.std.proofs.Common.{ℕ, not, ◌&&◌, nat_lt, ap, ◌∙◌}
 use Rattle.pg_base.specs.Sets.{has}
-use Rattle.pg_expr.specs.AtomSets.{contains}
-use Rattle.catalog.specs.Entries.{index_of}
+use Rattle.pg_expr.specs.work.AtomSets.{contains}
+use Rattle.catalog.specs.work.Entries.{index_of}
 use Rattle.index_match.proofs.FoundLemmas.{bounds_found, tests_found}
 use Rattle.index_match.proofs.matching.conditions_among.Goals as goal
 

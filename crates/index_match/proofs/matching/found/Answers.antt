@@ -1,8 +1,8 @@
 use Rattle.std.proofs.Common.{ℕ, ap, ◌∙◌}
 use Rattle.pg_base.specs.Sets.{has}
-use Rattle.pg_expr.specs.AtomSets.{contains}
-use Rattle.catalog.specs.Entries.{index_of}
-use Rattle.index_match.specs.Slots.{is_number, least}
+use Rattle.pg_expr.specs.work.AtomSets.{contains}
+use Rattle.catalog.specs.work.Entries.{index_of}
+use Rattle.index_match.specs.work.Slots.{is_number, least}
 use Rattle.index_match.proofs.FoundLemmas.{btree_conditions, hash_conditions}
 use Rattle.index_match.proofs.matching.found.Goals as goal
 

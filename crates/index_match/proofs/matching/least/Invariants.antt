@@ -1,7 +1,7 @@
 use Rattle.std.proofs.Common.{◌≡◌, ℕ, ◌-◌, false, find}
 use Rattle.std.specs.List.{range_with_len}
-use Rattle.pg_expr.specs.AtomSets.{contains}
-use Rattle.index_match.specs.Slots as slots
+use Rattle.pg_expr.specs.work.AtomSets.{contains}
+use Rattle.index_match.specs.work.Slots as slots
 use Rattle.index_match.proofs.matching.least.Given as goal
 
 abbrev pub invariant-loop-n : goal.invariant-loop-n

@@ -1,9 +1,9 @@
 use Rattle.std.proofs.Common.{ap, Option}
 use Rattle.std.specs.Option.{option_map}
-use Rattle.pg_expr.specs.AtomSets.{contains}
-use Rattle.pg_expr.specs.View.{cond}
+use Rattle.pg_expr.specs.work.AtomSets.{contains}
+use Rattle.pg_expr.specs.work.View.{cond}
 use Rattle.pg_expr.specs.declared.expr.Expr.{Expr}
-use Rattle.catalog.specs.Entries.{index_of}
+use Rattle.catalog.specs.work.Entries.{index_of}
 use Rattle.eq_classes.specs.Parts.{is_base}
 use Rattle.index_match.proofs.FoundLemmas.{placed_are}
 use Rattle.index_match.proofs.UsableLemmas.{usable_by}

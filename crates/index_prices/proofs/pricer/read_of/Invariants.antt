@@ -1,5 +1,5 @@
 use Rattle.std.proofs.Common.{◌≡◌, drop}
-use Rattle.index_prices.specs.Prices.{read_by}
+use Rattle.index_prices.specs.work.Prices.{read_by}
 use Rattle.index_prices.proofs.pricer.read_of.Given as goal
 
 abbrev pub invariant-loop-j : goal.invariant-loop-j

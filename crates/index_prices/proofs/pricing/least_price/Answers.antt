@@ -1,5 +1,5 @@
 use Rattle.std.proofs.Common.{sym}
-use Rattle.plan_tree.specs.Views.{path}
+use Rattle.plan_tree.specs.work.Views.{path}
 use Rattle.index_prices.proofs.pricing.least_price.Goals as goal
 
 pub returns-in-Ok-clause-price : goal.returns-in-Ok-clause-price

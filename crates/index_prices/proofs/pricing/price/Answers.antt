@@ -3,7 +3,7 @@ use Rattle.pg_base.specs.Sets.{has}
 use Rattle.catalog.specs.Range.{Range}
 use Rattle.eq_classes.specs.Clauses.{ClassTable}
 use Rattle.path_cost.specs.Estimates.{set_rows}
-use Rattle.plan_tree.specs.Views.{path}
+use Rattle.plan_tree.specs.work.Views.{path}
 use Rattle.plan_tree.proofs.BoundLemmas.{lawful-rows}
 use Rattle.index_prices.proofs.PricingLemmas.{kept-whole, over-lent, rows-are}
 use Rattle.index_prices.proofs.pricing.price.Goals as goal

@@ -1,4 +1,4 @@
-use Rattle.plan_tree.specs.Views.{path}
+use Rattle.plan_tree.specs.work.Views.{path}
 use Rattle.index_prices.proofs.QuoteLemmas.{quote-read}
 use Rattle.index_prices.proofs.pricing.quote_of.Goals as goal
 

@@ -1,6 +1,6 @@
 use Rattle.std.proofs.Common.{◌≡◌, drop}
-use Rattle.plan_laws.specs.Fewer.{some_reads}
-use Rattle.plan_tree.specs.Views.{bits_all}
+use Rattle.plan_laws.specs.work.Fewer.{some_reads}
+use Rattle.plan_tree.specs.work.Views.{bits_all}
 use Rattle.index_prices.proofs.reading.+bits.Given as goal
 
 abbrev pub invariant-some_reads-loop-tree : goal.invariant-some_reads-loop-tree

@@ -1,6 +1,6 @@
-use Rattle.advisor.specs.Choices.{IsPart}
-use Rattle.plan_tree.specs.Views.{plan}
-use Rattle.index_prices.specs.Quotes.{HasAllRead}
+use Rattle.advisor.specs.work.Choices.{IsPart}
+use Rattle.plan_tree.specs.work.Views.{plan}
+use Rattle.index_prices.specs.work.Quotes.{HasAllRead}
 use Rattle.index_prices.proofs.reading.candidates_read.Given as goal
 
 abbrev pub invariant-loop-j : goal.invariant-loop-j

@@ -1,6 +1,6 @@
 use Rattle.std.proofs.Common.{◌∙◌, ap}
-use Rattle.plan_laws.specs.Fewer.{reads}
-use Rattle.plan_tree.specs.Views.{plan}
+use Rattle.plan_laws.specs.work.Fewer.{reads}
+use Rattle.plan_tree.specs.work.Views.{plan}
 use Rattle.index_prices.proofs.NameLemmas.{name-there, one-index}
 use Rattle.index_prices.proofs.reading.reads_named.Goals as goal
 

@@ -1,6 +1,6 @@
 use Rattle.std.proofs.Common.{◌≤◌, ◌<◌, ◌+◌, ℕ, length}
 use Rattle.catalog.specs.Contents.{indexes_of}
-use Rattle.plan_laws.specs.Fewer.{or_clauses}
+use Rattle.plan_laws.specs.work.Fewer.{or_clauses}
 use Rattle.plan_tree.specs.Bitmaps.{MOST_ELEMENTS, table_of_relation}
 use Rattle.index_prices.proofs.room.has_room.Given as goal
 

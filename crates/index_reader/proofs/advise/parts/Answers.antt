@@ -1,7 +1,7 @@
 use Rattle.std.proofs.Common.{List, arith, subst}
 use Rattle.catalog.specs.Contents.{NamedIndex}
 use Rattle.catalog.specs.Candidates.{with_candidates}
-use Rattle.index_reader.specs.Walk.{HaveRoom}
+use Rattle.index_reader.specs.work.Walk.{HaveRoom}
 use Rattle.index_reader.proofs.StandLemmas.{few-tokens}
 use Rattle.index_reader.proofs.StatementLemmas.{all-meant, candidates-wrong, number-wrong, queries-wrong, room-wrong}
 use Rattle.index_reader.proofs.ReadLemmas.{all-room-of, candidates-fault, end-inside, first-there, number-fault, parts-stopped, queries-fault, room-of, sound-as}

@@ -1,5 +1,5 @@
 use Rattle.std.proofs.Common.{arith}
-use Rattle.catalog.specs.Entries.{index_of}
+use Rattle.catalog.specs.work.Entries.{index_of}
 use Rattle.catalog.specs.Indexes.{columns_of}
 use Rattle.catalog.proofs.IndexLemmas.{different-all, different-more, length-columns}
 use Rattle.catalog.proofs.NameLaws.{not_among}

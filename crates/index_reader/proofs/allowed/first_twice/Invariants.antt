@@ -1,5 +1,5 @@
 use Rattle.std.proofs.Common.{take}
-use Rattle.catalog.specs.Entries.{index_of}
+use Rattle.catalog.specs.work.Entries.{index_of}
 use Rattle.catalog.specs.Indexes.{AreDifferentColumns, columns_of}
 use Rattle.index_reader.proofs.allowed.first_twice.Given as goal
 

@@ -1,5 +1,5 @@
 use Rattle.catalog.specs.Candidates.{with_candidates}
-use Rattle.index_reader.specs.Reads.{index_meant}
+use Rattle.index_reader.specs.work.Reads.{index_meant}
 use Rattle.index_reader.proofs.CandidateLemmas.{repeated-by}
 use Rattle.index_reader.proofs.allowed.not_allowed.Goals as goal
 

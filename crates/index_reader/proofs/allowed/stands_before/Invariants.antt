@@ -1,5 +1,5 @@
 use Rattle.std.proofs.Common.{take, Contains}
-use Rattle.catalog.specs.Entries.{index_of}
+use Rattle.catalog.specs.work.Entries.{index_of}
 use Rattle.catalog.specs.Indexes.{columns_of}
 use Rattle.index_reader.proofs.allowed.stands_before.Given as goal
 

@@ -1,7 +1,7 @@
 use Rattle.std.proofs.Common.{List, arith, ap, length, ◌∙◌, refl, subst, sym}
 use Rattle.sql_grammar.specs.Terminals.{Terminal, t_mark}
 use Rattle.sql_grammar.specs.declared.class.Symbol.TheVariants.{Comma}
-use Rattle.expr_reader.specs.Reading.{Begins, BeginsNot}
+use Rattle.expr_reader.specs.work.Reading.{Begins, BeginsNot}
 use Rattle.index_reader.proofs.StandLemmas.{few-tokens}
 use Rattle.index_reader.proofs.CandidateLemmas.{apart-none, apart-then, as-many, first-stands, going-from, goes-wrong, more-on, more-out, one-more, one-wrong, ongoing, stopped}
 use Rattle.index_reader.proofs.candidates.candidates.Goals as goal

@@ -1,6 +1,6 @@
 use Rattle.std.proofs.Common.{◌≡◌, ◌-◌, ◌∷◌, List, length}
 use Rattle.sql_lex.specs.declared.tokens.Token.{Token}
-use Rattle.index_reader.specs.Walk.{AreApart, Row, RowAt}
+use Rattle.index_reader.specs.work.Walk.{AreApart, Row, RowAt}
 use Rattle.index_reader.proofs.CandidateLemmas.{Going}
 use Rattle.index_reader.proofs.candidates.candidates.Given as goal
 

@@ -1,5 +1,5 @@
 use Rattle.std.proofs.Common.{arith}
-use Rattle.index_reader.specs.Reads.{index_meant}
+use Rattle.index_reader.specs.work.Reads.{index_meant}
 use Rattle.index_reader.proofs.CandidateLemmas.{cand-ahead, cand-at, cand-refused, cand-stopped, eleventh-at, made, made-wrong, read-wrong}
 use Rattle.index_reader.proofs.candidates.one.Goals as goal
 

@@ -4,7 +4,7 @@ use Rattle.std.specs.Option.{option_map}
 use Rattle.pg_base.specs.declared.limits.TheConstants.{MOST_COLUMNS}
 use Rattle.pg_expr.specs.declared.expr.Expr.{Expr}
 use Rattle.pg_expr.specs.Cond.{Cond}
-use Rattle.pg_expr.specs.View.{cond}
+use Rattle.pg_expr.specs.work.View.{cond}
 use Rattle.sql_grammar.specs.declared.class.Symbol.TheVariants.{Open}
 use Rattle.sql_grammar.specs.Terminals.{t_mark}
 use Rattle.sql_grammar.specs.Words.{words_of_where}
@@ -16,7 +16,7 @@ use Rattle.index_reader.specs.declared.keys.KeyRead.{KeyRead}
 use Rattle.index_reader.specs.declared.names.NamedColumn.{NamedColumn}
 use Rattle.index_reader.specs.declared.methods.MethodRead.{MethodRead}
 use Rattle.index_reader.specs.Meaning.{IndexMeant, condition_bound, limited_names, name_tokens}
-use Rattle.index_reader.specs.Reads.{index_meant}
+use Rattle.index_reader.specs.work.Reads.{index_meant}
 use Rattle.index_reader.proofs.KeyLemmas.{reads-memory}
 use Rattle.index_reader.proofs.VisibleLemmas.{sight}
 use Rattle.index_reader.proofs.IndexLemmas.{behind, body, include-end, opened, table-told, columns-wrong, atoms-wrong, all-within, method-wrong, keys-wrong, names-wrong, condition-wrong, all-bound}

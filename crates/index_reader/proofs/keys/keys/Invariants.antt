@@ -3,7 +3,7 @@ use Rattle.sql_grammar.specs.Terminals.{Terminal}
 use Rattle.sql_grammar.specs.Syntax.{KeyTree, Mark}
 use Rattle.ddl_reader.proofs.ListLemmas.{So}
 use Rattle.index_reader.specs.Keys.{all_key_trees}
-use Rattle.index_reader.specs.Reads.{words_of_keys_left}
+use Rattle.index_reader.specs.work.Reads.{words_of_keys_left}
 use Rattle.index_reader.proofs.ListPartLemmas.{key_parts}
 use Rattle.index_reader.proofs.keys.keys.Given as goal
 

@@ -1,7 +1,7 @@
 use Rattle.std.proofs.Common.{Vec, refl, sym, ◌∙◌, subst}
 use Rattle.std.specs.declared.alloc.Global.{Global}
 use Rattle.sql_grammar.specs.Syntax.{Include}
-use Rattle.expr_reader.specs.Reads.{Reads}
+use Rattle.expr_reader.specs.work.Reads.{Reads}
 use Rattle.expr_reader.specs.Lists.{bound_each}
 use Rattle.index_reader.specs.declared.names.NamedColumn.{NamedColumn}
 use Rattle.index_reader.specs.Keys.{name_bound, include_names}

@@ -3,7 +3,7 @@ use Rattle.sql_grammar.specs.Terminals.{Terminal, Ident}
 use Rattle.sql_grammar.specs.Syntax.{Mark}
 use Rattle.expr_reader.specs.Lists.{further_parts}
 use Rattle.ddl_reader.proofs.ListLemmas.{So}
-use Rattle.index_reader.specs.Reads.{words_of_names_left}
+use Rattle.index_reader.specs.work.Reads.{words_of_names_left}
 use Rattle.index_reader.proofs.ListPartLemmas.{name_parts}
 use Rattle.index_reader.proofs.names.names.Given as goal
 

@@ -1,9 +1,9 @@
 use Rattle.std.proofs.Common.{List, refl, subst, sym, arith}
 use Rattle.sql_grammar.specs.Terminals.{Terminal, t_mark}
 use Rattle.sql_grammar.specs.declared.class.Symbol.TheVariants.{Open}
-use Rattle.expr_reader.specs.Reading.{Begins, BeginsNot}
+use Rattle.expr_reader.specs.work.Reading.{Begins, BeginsNot}
 use Rattle.sql_query.specs.Queries.{Query}
-use Rattle.index_reader.specs.Walk.{ArePlannable}
+use Rattle.index_reader.specs.work.Walk.{ArePlannable}
 use Rattle.index_reader.proofs.QueryLemmas.{Going, none-left, one-left, one-meant, one-wrong, ongoing, plannable-more, room-for, stopped}
 use Rattle.index_reader.proofs.queries.queries.Goals as goal
 

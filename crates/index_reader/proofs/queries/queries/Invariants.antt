@@ -1,6 +1,6 @@
 use Rattle.std.proofs.Common.{◌≡◌, ◌≤◌, ◌-◌, ◌∷◌, List, length}
 use Rattle.sql_lex.specs.declared.tokens.Token.{Token}
-use Rattle.index_reader.specs.Walk.{ArePlannable, QueryRow, QueryRowAt}
+use Rattle.index_reader.specs.work.Walk.{ArePlannable, QueryRow, QueryRowAt}
 use Rattle.index_reader.proofs.QueryLemmas.{Going}
 use Rattle.index_reader.proofs.queries.queries.Given as goal
 

@@ -1,9 +1,9 @@
 use Rattle.std.proofs.Common.{[], List, sym, ap, subst, ◌∙◌, arith}
 use Rattle.sql_lex.specs.declared.tokens.Token.{Token}
 use Rattle.sql_lex.specs.Ends.{token_at}
-use Rattle.expr_reader.specs.Reads.{Reads}
+use Rattle.expr_reader.specs.work.Reads.{Reads}
 use Rattle.index_reader.specs.Meaning.{meaning_of_cand}
-use Rattle.index_reader.specs.Reads.{index_meant}
+use Rattle.index_reader.specs.work.Reads.{index_meant}
 use Rattle.index_reader.proofs.CandLemmas.{cand-goes-on}
 use Rattle.index_reader.proofs.IndexLemmas.{cand-read, every-cand, parts-of}
 use Rattle.index_reader.proofs.SoundLemmas.{sound-as}

@@ -2,7 +2,7 @@ use Rattle.std.proofs.Common.{◌-◌, List, length, ap, arith}
 use Rattle.sql_lex.specs.declared.tokens.Token.{Token}
 use Rattle.sql_grammar.proofs.StatementWords.{words-are-tokens}
 use Rattle.ddl_reader.proofs.TokenLaws.{some-token}
-use Rattle.index_reader.specs.Candidates.{cand_of}
+use Rattle.index_reader.specs.work.Candidates.{cand_of}
 use Rattle.index_reader.proofs.CandLemmas.{cand-behind, index-told}
 use Rattle.index_reader.proofs.IndexLemmas.{indexing, meant-as, refused-as}
 use Rattle.index_reader.proofs.read.read_index.Goals as goal

@@ -1,7 +1,7 @@
 use Rattle.std.proofs.Common.{◌≡◌, [], take, drop}
 use Rattle.catalog.specs.Candidates.{with_candidates}
 use Rattle.index_reader.specs.AdviseCandidates.{with_room}
-use Rattle.index_reader.specs.Walk.{HaveRoom}
+use Rattle.index_reader.specs.work.Walk.{HaveRoom}
 use Rattle.index_reader.proofs.room.room_fault.Given as goal
 
 abbrev pub invariant-loop-n : goal.invariant-loop-n

@@ -1,6 +1,6 @@
 use Rattle.std.proofs.Common.{◌≤◌, ℕ, arith}
-use Rattle.plan_check.specs.Views.{certificate}
-use Rattle.join_cover.specs.Serving.{AreJoinsOf}
+use Rattle.plan_check.specs.work.Views.{certificate}
+use Rattle.join_cover.specs.work.Serving.{AreJoinsOf}
 use Rattle.join_cover.proofs.CoverLemmas.{joins-served}
 use Rattle.pg_base.proofs.NumberLemmas.{each-below as below-next}
 use Rattle.join_cover.proofs.joins.open_join.Goals as goal

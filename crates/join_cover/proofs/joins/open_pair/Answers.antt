@@ -1,4 +1,4 @@
-use Rattle.plan_check.specs.Views.{certificate}
+use Rattle.plan_check.specs.work.Views.{certificate}
 use Rattle.join_cover.proofs.CoverLemmas.{none-meeting, pair-served}
 use Rattle.join_cover.proofs.joins.open_pair.Goals as goal
 

@@ -1,6 +1,6 @@
 use Rattle.std.proofs.Common.{arith}
-use Rattle.plan_check.specs.Views.{certificate}
-use Rattle.join_cover.specs.Serving.{AreJoinsOf}
+use Rattle.plan_check.specs.work.Views.{certificate}
+use Rattle.join_cover.specs.work.Serving.{AreJoinsOf}
 use Rattle.pg_base.proofs.NumberLemmas.{each-below as below-next}
 use Rattle.join_cover.proofs.joins.open_side.Goals as goal
 

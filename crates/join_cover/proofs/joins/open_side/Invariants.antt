@@ -1,6 +1,6 @@
 use Rattle.std.proofs.Common.{◌<◌, ℕ}
-use Rattle.plan_check.specs.Views.{certificate}
-use Rattle.join_cover.specs.Serving.{AreJoinsOf}
+use Rattle.plan_check.specs.work.Views.{certificate}
+use Rattle.join_cover.specs.work.Serving.{AreJoinsOf}
 use Rattle.join_cover.proofs.joins.open_side.Given as goal
 
 abbrev pub invariant-loop-bits : goal.invariant-loop-bits

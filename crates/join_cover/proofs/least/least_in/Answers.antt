@@ -1,5 +1,5 @@
 use Rattle.std.proofs.Common.{map, sym}
-use Rattle.plan_check.specs.Views.{entry}
+use Rattle.plan_check.specs.work.Views.{entry}
 use Rattle.plan_check.proofs.PlacedLemmas.{there-read}
 use Rattle.join_cover.proofs.LeastLemmas.{least-none, least-until}
 use Rattle.join_cover.proofs.least.least_in.Goals as goal

@@ -1,6 +1,6 @@
 use Rattle.std.proofs.Common.{map}
-use Rattle.plan_check.specs.Views.{entry}
-use Rattle.join_cover.specs.Leasts.{IsLeastFrom}
+use Rattle.plan_check.specs.work.Views.{entry}
+use Rattle.join_cover.specs.work.Leasts.{IsLeastFrom}
 use Rattle.join_cover.proofs.least.least_in.Given as goal
 
 abbrev pub invariant-loop-i : goal.invariant-loop-i

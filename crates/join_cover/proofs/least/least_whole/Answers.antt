@@ -1,6 +1,6 @@
 use Rattle.std.proofs.Common.{refl}
 use Rattle.std.specs.Prelude.{None, Some}
-use Rattle.plan_check.specs.Views.{certificate}
+use Rattle.plan_check.specs.work.Views.{certificate}
 use Rattle.join_cover.proofs.LeastLemmas.{least-never, least-some}
 use Rattle.join_cover.proofs.MergeLemmas.{least-read}
 use Rattle.join_cover.proofs.least.least_whole.Goals as goal

@@ -1,7 +1,7 @@
 use Rattle.std.proofs.Common.{map, subst}
-use Rattle.plan_check.specs.Views.{entry}
+use Rattle.plan_check.specs.work.Views.{entry}
 use Rattle.plan_check.proofs.PlaceLemmas.{read-at}
-use Rattle.join_cover.specs.Leasts.{IsLeastFrom}
+use Rattle.join_cover.specs.work.Leasts.{IsLeastFrom}
 use Rattle.join_cover.proofs.LeastLemmas.{least-first, least-more, skip-other}
 use Rattle.join_cover.proofs.least.lesser.Goals as goal
 

@@ -1,8 +1,8 @@
 use Rattle.std.proofs.Common.{◌≡◌}
 use Rattle.std.specs.Prelude.{Some, slice_get}
 use Rattle.eq_classes.specs.declared.classes.ClassNo.{ClassNo}
-use Rattle.plan_check.specs.Views.{certificate}
-use Rattle.join_cover.specs.Serving.{IsFirstServed}
+use Rattle.plan_check.specs.work.Views.{certificate}
+use Rattle.join_cover.specs.work.Serving.{IsFirstServed}
 use Rattle.join_cover.proofs.WalkLemmas.{before-all, before-next, read-none, read-some}
 use Rattle.join_cover.proofs.lists.open_firsts.Goals as goal
 use Rattle.join_cover.proofs.lists.open_firsts.Goals.{in-Some+in_default-open_one, in_default}

@@ -1,4 +1,4 @@
-use Rattle.plan_check.specs.Views.{certificate}
+use Rattle.plan_check.specs.work.Views.{certificate}
 use Rattle.join_cover.proofs.MergeLemmas.{list-by, merges-by}
 use Rattle.join_cover.proofs.lists.open_list.Goals as goal
 

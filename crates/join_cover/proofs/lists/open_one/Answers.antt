@@ -1,4 +1,4 @@
-use Rattle.plan_check.specs.Views.{certificate}
+use Rattle.plan_check.specs.work.Views.{certificate}
 use Rattle.join_cover.proofs.ListLemmas.{first-served}
 use Rattle.join_cover.proofs.lists.open_one.Goals as goal
 

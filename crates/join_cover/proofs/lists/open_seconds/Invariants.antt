@@ -1,5 +1,5 @@
-use Rattle.join_cover.specs.Serving.{IsSecondServed}
-use Rattle.plan_check.specs.Views.{certificate}
+use Rattle.join_cover.specs.work.Serving.{IsSecondServed}
+use Rattle.plan_check.specs.work.Views.{certificate}
 use Rattle.join_cover.proofs.WalkLemmas.{AreBefore}
 use Rattle.join_cover.proofs.lists.open_seconds.Given as goal
 

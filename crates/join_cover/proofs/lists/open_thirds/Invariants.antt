@@ -1,5 +1,5 @@
-use Rattle.join_cover.specs.Serving.{IsThirdServed}
-use Rattle.plan_check.specs.Views.{certificate}
+use Rattle.join_cover.specs.work.Serving.{IsThirdServed}
+use Rattle.plan_check.specs.work.Views.{certificate}
 use Rattle.join_cover.proofs.WalkLemmas.{AreBefore}
 use Rattle.join_cover.proofs.lists.open_thirds.Given as goal
 

@@ -1,5 +1,5 @@
 use Rattle.pg_base.specs.Sets.{has}
-use Rattle.plan_check.specs.Views.{certificate}
+use Rattle.plan_check.specs.work.Views.{certificate}
 use Rattle.join_cover.proofs.ListLemmas.{list-two, second-served}
 use Rattle.join_cover.proofs.lists.open_two.Goals as goal
 

@@ -1,7 +1,7 @@
 use Rattle.std.proofs.Common.{◌∙◌, refl, sym}
 use Rattle.std.proofs.lemmas.Bool.{false≢true}
-use Rattle.pathkeys.specs.Finding.{class_numbers}
-use Rattle.plan_check.specs.Views.{certificate, entry}
+use Rattle.pathkeys.specs.work.Finding.{class_numbers}
+use Rattle.plan_check.specs.work.Views.{certificate, entry}
 use Rattle.entry_check.proofs.PlaceLemmas.{read-there}
 use Rattle.join_cover.proofs.CoverLemmas.{none-led, other-than}
 use Rattle.join_cover.proofs.merges.may_lead.Goals as goal

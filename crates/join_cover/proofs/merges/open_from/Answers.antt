@@ -1,7 +1,7 @@
 use Rattle.std.proofs.Common.{refl}
 use Rattle.std.proofs.lemmas.Option.{slice_get_within}
-use Rattle.pathkeys.specs.Finding.{class_numbers}
-use Rattle.plan_check.specs.Views.{certificate}
+use Rattle.pathkeys.specs.work.Finding.{class_numbers}
+use Rattle.plan_check.specs.work.Views.{certificate}
 use Rattle.join_cover.proofs.LeastLemmas.{rows-served}
 use Rattle.join_cover.proofs.MergeLemmas.{past-within, weaker}
 use Rattle.join_cover.proofs.merges.open_from.Goals as goal

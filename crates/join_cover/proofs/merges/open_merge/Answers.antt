@@ -1,7 +1,7 @@
 use Rattle.std.proofs.Common.{refl}
-use Rattle.pathkeys.specs.Finding.{class_numbers}
-use Rattle.plan_check.specs.Views.{certificate, entry}
-use Rattle.plan_check.specs.Beating.{candidate}
+use Rattle.pathkeys.specs.work.Finding.{class_numbers}
+use Rattle.plan_check.specs.work.Views.{certificate, entry}
+use Rattle.plan_check.specs.work.Beating.{candidate}
 use Rattle.entry_check.proofs.PlaceLemmas.{read-there}
 use Rattle.entry_check.proofs.WorkLemmas.{list-of}
 use Rattle.join_cover.proofs.CoverLemmas.{beaten-read, has-right-at, merge-beaten, merge-none, merge-open, other-than, unbeaten-read}

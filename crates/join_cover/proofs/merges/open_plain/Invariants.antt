@@ -1,8 +1,8 @@
 use Rattle.std.proofs.Common.{◌<◌, ◌≤◌, ℕ, false}
-use Rattle.pathkeys.specs.Finding.{class_numbers}
-use Rattle.plan_check.specs.Views.{certificate}
-use Rattle.plan_check.specs.Placing.{IsOf, place_at}
-use Rattle.join_cover.specs.Serving.{IsMergeServed}
+use Rattle.pathkeys.specs.work.Finding.{class_numbers}
+use Rattle.plan_check.specs.work.Views.{certificate}
+use Rattle.plan_check.specs.work.Placing.{IsOf, place_at}
+use Rattle.join_cover.specs.work.Serving.{IsMergeServed}
 use Rattle.join_cover.proofs.merges.open_plain.Given as goal
 
 abbrev pub invariant-loop-i : goal.invariant-loop-i

@@ -1,6 +1,6 @@
 use Rattle.std.proofs.Common.{refl}
-use Rattle.pathkeys.specs.Finding.{class_numbers}
-use Rattle.plan_check.specs.Views.{certificate}
+use Rattle.pathkeys.specs.work.Finding.{class_numbers}
+use Rattle.plan_check.specs.work.Views.{certificate}
 use Rattle.join_cover.proofs.LeastLemmas.{row-served}
 use Rattle.join_cover.proofs.MergeLemmas.{past-within, weaker}
 use Rattle.join_cover.proofs.merges.open_row.Goals as goal

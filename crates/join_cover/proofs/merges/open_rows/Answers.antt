@@ -1,8 +1,8 @@
 use Rattle.std.proofs.Common.{arith, false, subst}
-use Rattle.pathkeys.specs.Finding.{class_numbers}
-use Rattle.plan_check.specs.Placing.{place_at}
-use Rattle.plan_check.specs.Views.{certificate}
-use Rattle.join_cover.specs.Serving.{IsRowServed}
+use Rattle.pathkeys.specs.work.Finding.{class_numbers}
+use Rattle.plan_check.specs.work.Placing.{place_at}
+use Rattle.plan_check.specs.work.Views.{certificate}
+use Rattle.join_cover.specs.work.Serving.{IsRowServed}
 use Rattle.join_cover.proofs.MergeLemmas.{below-from, there-at}
 use Rattle.join_cover.proofs.merges.open_rows.Goals as goal
 

@@ -1,5 +1,5 @@
 use Rattle.pg_base.specs.Sets.{has}
-use Rattle.plan_check.specs.Views.{certificate}
+use Rattle.plan_check.specs.work.Views.{certificate}
 use Rattle.join_cover.proofs.CoverLemmas.{merge-named}
 use Rattle.join_cover.proofs.ListLemmas.{few-classes}
 use Rattle.join_cover.proofs.merges.open_sides.Goals as goal

@@ -1,5 +1,5 @@
-use Rattle.pathkeys.specs.Finding.{class_numbers}
-use Rattle.plan_check.specs.Views.{certificate}
+use Rattle.pathkeys.specs.work.Finding.{class_numbers}
+use Rattle.plan_check.specs.work.Views.{certificate}
 use Rattle.join_cover.proofs.LeastLemmas.{no-inner, no-outer}
 use Rattle.join_cover.proofs.merges.open_work.Goals as goal
 

@@ -1,6 +1,6 @@
 use Rattle.std.proofs.Common.{refl}
-use Rattle.plan_check.specs.Views.{certificate, entry}
-use Rattle.plan_check.specs.Beating.{candidate}
+use Rattle.plan_check.specs.work.Views.{certificate, entry}
+use Rattle.plan_check.specs.work.Beating.{candidate}
 use Rattle.entry_check.proofs.PlaceLemmas.{read-there}
 use Rattle.join_cover.proofs.CoverLemmas.{beaten-read, has-right-at, nest-beaten, nest-none, nest-open, other-than, unbeaten-read}
 use Rattle.join_cover.proofs.MergeLemmas.{placed-read}

@@ -1,7 +1,7 @@
 use Rattle.std.proofs.Common.{arith, subst}
-use Rattle.plan_check.specs.Views.{certificate}
-use Rattle.plan_check.specs.Placing.{IsOf, place_at}
-use Rattle.join_cover.specs.Serving.{IsNestServed}
+use Rattle.plan_check.specs.work.Views.{certificate}
+use Rattle.plan_check.specs.work.Placing.{IsOf, place_at}
+use Rattle.join_cover.specs.work.Serving.{IsNestServed}
 use Rattle.join_cover.proofs.MergeLemmas.{below-from, there-at}
 use Rattle.join_cover.proofs.nests.open_inner.Goals as goal
 

@@ -1,5 +1,5 @@
 use Rattle.std.proofs.Common.{refl}
-use Rattle.plan_check.specs.Views.{certificate}
+use Rattle.plan_check.specs.work.Views.{certificate}
 use Rattle.join_cover.proofs.MergeLemmas.{nests-of, past-within}
 use Rattle.join_cover.proofs.nests.open_nests.Goals as goal
 

@@ -1,8 +1,8 @@
 use Rattle.std.proofs.Common.{◌≡◌, ◌<◌, ◌≤◌, ◌+◌, ℕ, arith, suc, subst, subst₂}
-use Rattle.plan_check.specs.Views.{certificate}
-use Rattle.plan_check.specs.Placing.{IsOf, place_at}
+use Rattle.plan_check.specs.work.Views.{certificate}
+use Rattle.plan_check.specs.work.Placing.{IsOf, place_at}
 use Rattle.plan_check.specs.declared.verdict.Plain.TheVariants as plain
-use Rattle.join_cover.specs.Serving.{IsNestServed, IsOpen}
+use Rattle.join_cover.specs.work.Serving.{IsNestServed, IsOpen}
 use Rattle.join_cover.proofs.MergeLemmas.{below-from, there-at}
 use Rattle.join_cover.proofs.nests.open_outer.Goals as goal
 

@@ -1,6 +1,6 @@
 use Rattle.std.proofs.Common.{◌∙◌, inr, refl, sym, subst, true≢false}
-use Rattle.join_search.specs.Splits.{HasEachFilled}
-use Rattle.join_search.specs.Tables.{paths_at}
+use Rattle.join_search.specs.work.Splits.{HasEachFilled}
+use Rattle.join_search.specs.work.Tables.{paths_at}
 use Rattle.join_search.proofs.FilledLemmas.{filled-more, filled-put}
 use Rattle.join_search.proofs.SearchLemmas.{done-more, done-single}
 use Rattle.join_search.proofs.by_sets.add_set.Goals as goal

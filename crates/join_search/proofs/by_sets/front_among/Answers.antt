@@ -4,8 +4,8 @@ use Rattle.std.proofs.lemmas.Grind.{common_steps}
 use Rattle.std.proofs.lemmas.List.Elements.{Contains-append_left, Contains-push}
 use Rattle.std.specs.Vec.Iter.{into_iter_items}
 use Rattle.plan_tree.specs.declared.path.Path.{Path as Costed}
-use Rattle.plan_tree.specs.Views.{path}
-use Rattle.join_search.specs.Sufficing.{HasSufficient}
+use Rattle.plan_tree.specs.work.Views.{path}
+use Rattle.join_search.specs.work.Sufficing.{HasSufficient}
 use Rattle.join_search.proofs.FrontingLemmas.{among-enough, among-some, among-undominated, enough-more, item-at, some-at, some-more}
 use Rattle.join_search.proofs.by_sets.front_among.Goals as goal
 

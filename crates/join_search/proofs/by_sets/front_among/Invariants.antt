@@ -1,8 +1,8 @@
 use Rattle.std.proofs.Common.{◌≡◌, ◌++◌, map}
 use Rattle.std.specs.Prelude.{All, Contains}
 use Rattle.std.specs.Vec.Iter.{into_iter_items}
-use Rattle.plan_tree.specs.Views.{path}
-use Rattle.join_search.specs.Sufficing.{HasSufficient}
+use Rattle.plan_tree.specs.work.Views.{path}
+use Rattle.join_search.specs.work.Sufficing.{HasSufficient}
 use Rattle.join_search.proofs.by_sets.front_among.Given as goal
 
 -- of the paths so far some are kept, that suffice for all of them

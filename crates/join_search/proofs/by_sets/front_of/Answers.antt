@@ -1,11 +1,11 @@
 use Rattle.std.proofs.Common.{List, map, subst, sym}
 use Rattle.std.specs.Prelude.{All, Contains}
 use Rattle.std.proofs.lemmas.Result.{IfOk-weaker}
-use Rattle.plan_tree.specs.Views.{path}
+use Rattle.plan_tree.specs.work.Views.{path}
 use Rattle.plan_tree.specs.declared.path.Path.{Path as Costed}
-use Rattle.join_search.specs.Joins.{IsPathAt}
-use Rattle.join_search.specs.Sufficing.{StaySufficient}
-use Rattle.join_search.specs.Tables.{none}
+use Rattle.join_search.specs.work.Joins.{IsPathAt}
+use Rattle.join_search.specs.work.Sufficing.{StaySufficient}
+use Rattle.join_search.specs.work.Tables.{none}
 use Rattle.join_search.proofs.FrontingLemmas.{shuffled-at, shuffled-enough, shuffled-some}
 use Rattle.join_search.proofs.by_sets.front_of.Goals as goal
 

@@ -1,9 +1,9 @@
 use Rattle.std.proofs.Common.{ap, map, sym, subst, arith}
 use Rattle.std.specs.Prelude.{All}
 use Rattle.std.proofs.lemmas.List.Elements.{All-nil}
-use Rattle.plan_tree.specs.Views.{path}
-use Rattle.join_search.specs.Joins.{AreUndominated, IsJoinPath}
-use Rattle.join_search.specs.Tables.{none, paths_at}
+use Rattle.plan_tree.specs.work.Views.{path}
+use Rattle.join_search.specs.work.Joins.{AreUndominated, IsJoinPath}
+use Rattle.join_search.specs.work.Tables.{none, paths_at}
 use Rattle.join_search.proofs.FilledLemmas.{bare-served}
 use Rattle.join_search.proofs.FrontingLemmas.{outside-is}
 use Rattle.join_search.proofs.by_sets.front_over.Goals as goal

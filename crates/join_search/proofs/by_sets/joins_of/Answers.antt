@@ -3,11 +3,11 @@ use Rattle.std.specs.Prelude.{All}
 use Rattle.std.proofs.lemmas.List.Elements.{All-more, All-nil, All-weaker}
 use Rattle.std.proofs.lemmas.Result.{IfOk-weaker}
 use Rattle.pg_base.specs.declared.rel_set.RelSet.{RelSet}
-use Rattle.plan_tree.specs.Views.{path}
-use Rattle.join_search.specs.Joins.{IsJoinPath}
-use Rattle.join_search.specs.Offers.{AreJoinsServed}
-use Rattle.join_search.specs.Splits.{IsDivided}
-use Rattle.join_search.specs.Tables.{none, paths_at}
+use Rattle.plan_tree.specs.work.Views.{path}
+use Rattle.join_search.specs.work.Joins.{IsJoinPath}
+use Rattle.join_search.specs.work.Offers.{AreJoinsServed}
+use Rattle.join_search.specs.work.Splits.{IsDivided}
+use Rattle.join_search.specs.work.Tables.{none, paths_at}
 use Rattle.join_search.proofs.FilledLemmas.{filled-served}
 use Rattle.join_search.proofs.ItemLemmas.{all-taken}
 use Rattle.join_search.proofs.SearchLemmas.{joins-enough, joins-later, some-joins}

@@ -1,10 +1,10 @@
 use Rattle.std.proofs.Common.{map, take}
 use Rattle.std.specs.Prelude.{All}
-use Rattle.plan_tree.specs.Views.{path}
-use Rattle.join_search.specs.Joins.{IsJoinPath}
-use Rattle.join_search.specs.Offers.{AreJoinsServed}
-use Rattle.join_search.specs.Splits.{IsDivided}
-use Rattle.join_search.specs.Tables.{none, paths_at}
+use Rattle.plan_tree.specs.work.Views.{path}
+use Rattle.join_search.specs.work.Joins.{IsJoinPath}
+use Rattle.join_search.specs.work.Offers.{AreJoinsServed}
+use Rattle.join_search.specs.work.Splits.{IsDivided}
+use Rattle.join_search.specs.work.Tables.{none, paths_at}
 use Rattle.pg_base.specs.declared.rel_set.RelSet.{RelSet}
 use Rattle.join_search.proofs.by_sets.joins_of.Given as goal
 

@@ -1,9 +1,9 @@
 use Rattle.std.proofs.Common.{map}
 use Rattle.std.proofs.lemmas.Result.{on_ok_weaker}
 use Rattle.pg_base.specs.Sets.{has}
-use Rattle.plan_tree.specs.Views.{path}
+use Rattle.plan_tree.specs.work.Views.{path}
 use Rattle.plan_tree.proofs.FrontLemmas.{keeps-itself}
-use Rattle.join_search.specs.Tables.{none}
+use Rattle.join_search.specs.work.Tables.{none}
 use Rattle.join_search.proofs.FrontingLemmas.{made-beaten, offered-enough, offered-still}
 use Rattle.join_search.proofs.KeyLemmas.{path-classes}
 use Rattle.join_search.proofs.by_sets.keep.Goals as goal

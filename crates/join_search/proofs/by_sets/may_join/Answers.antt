@@ -1,6 +1,6 @@
 use Rattle.std.proofs.Common.{◌≡◌, ◌∙◌, [], inl, inr, sym, subst, true≢false}
-use Rattle.join_search.specs.Offers.{AreJoinsServed}
-use Rattle.join_search.specs.Tables.{paths_at}
+use Rattle.join_search.specs.work.Offers.{AreJoinsServed}
+use Rattle.join_search.specs.work.Tables.{paths_at}
 use Rattle.join_search.proofs.FilledLemmas.{not-false}
 use Rattle.join_search.proofs.SetLemmas.{inner-is, outer-within}
 use Rattle.join_search.proofs.TableLemmas.{same-number}

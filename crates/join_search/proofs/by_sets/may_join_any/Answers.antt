@@ -1,6 +1,6 @@
 use Rattle.std.proofs.lemmas.List.Elements.{All-more}
-use Rattle.join_search.specs.Past.{HasNoJoins}
-use Rattle.join_search.specs.Tables.{paths_at}
+use Rattle.join_search.specs.work.Past.{HasNoJoins}
+use Rattle.join_search.specs.work.Tables.{paths_at}
 use Rattle.join_search.proofs.ItemLemmas.{all-taken}
 use Rattle.join_search.proofs.by_sets.may_join_any.Goals as goal
 

@@ -1,7 +1,7 @@
 use Rattle.std.proofs.Common.{take}
 use Rattle.std.specs.Prelude.{All}
-use Rattle.join_search.specs.Past.{HasNoJoins}
-use Rattle.join_search.specs.Tables.{paths_at}
+use Rattle.join_search.specs.work.Past.{HasNoJoins}
+use Rattle.join_search.specs.work.Tables.{paths_at}
 use Rattle.join_search.proofs.by_sets.may_join_any.Given as goal
 
 -- no joins of the parts so far are wanted

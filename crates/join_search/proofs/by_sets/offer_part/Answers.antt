@@ -1,8 +1,8 @@
 use Rattle.std.proofs.Common.{◌∙◌, map, sym, subst, true≢false}
 use Rattle.std.proofs.lemmas.Result.{on_ok_weaker}
-use Rattle.plan_tree.specs.Views.{path}
-use Rattle.join_search.specs.Offers.{AreTargetServed}
-use Rattle.join_search.specs.Tables.{none, paths_at}
+use Rattle.plan_tree.specs.work.Views.{path}
+use Rattle.join_search.specs.work.Offers.{AreTargetServed}
+use Rattle.join_search.specs.work.Tables.{none, paths_at}
 use Rattle.join_search.proofs.ItemLemmas.{empty-lent}
 use Rattle.join_search.proofs.OfferLemmas.{takes-none}
 use Rattle.join_search.proofs.SearchLemmas.{split-bare, split-none}

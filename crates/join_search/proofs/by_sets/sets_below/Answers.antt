@@ -1,4 +1,4 @@
-use Rattle.join_search.specs.Tables.{paths_at}
+use Rattle.join_search.specs.work.Tables.{paths_at}
 use Rattle.join_search.proofs.FilledLemmas.{filled-first}
 use Rattle.join_search.proofs.SearchLemmas.{done-first}
 use Rattle.join_search.proofs.by_sets.sets_below.Goals as goal

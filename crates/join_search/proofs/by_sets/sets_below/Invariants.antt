@@ -1,6 +1,6 @@
-use Rattle.join_search.specs.Search.{IsDone}
-use Rattle.join_search.specs.Splits.{HasEachFilled}
-use Rattle.join_search.specs.Tables.{paths_at}
+use Rattle.join_search.specs.work.Search.{IsDone}
+use Rattle.join_search.specs.work.Splits.{HasEachFilled}
+use Rattle.join_search.specs.work.Tables.{paths_at}
 use Rattle.join_search.proofs.by_sets.sets_below.Given as goal
 
 -- the sets below a number are done, and those that have paths are noted

@@ -1,5 +1,5 @@
 use Rattle.std.proofs.Common.{◌∙◌, sym, subst, true≢false}
-use Rattle.join_search.specs.Joins.{IsSingle}
+use Rattle.join_search.specs.work.Joins.{IsSingle}
 use Rattle.join_search.proofs.LikelyLemmas.{placed-put}
 use Rattle.join_search.proofs.TableLemmas.{same-number}
 use Rattle.join_search.proofs.likely.add_joins.Goals as goal

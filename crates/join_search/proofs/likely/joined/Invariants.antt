@@ -1,5 +1,5 @@
-use Rattle.join_search.specs.Joins.{ArePlaced, HaveSameScans}
-use Rattle.join_search.specs.Tables.{paths_at}
+use Rattle.join_search.specs.work.Joins.{ArePlaced, HaveSameScans}
+use Rattle.join_search.specs.work.Tables.{paths_at}
 use Rattle.join_search.proofs.likely.joined.Given as goal
 
 -- each path stands at its place, and the fronts of single relations are as they were

@@ -2,9 +2,9 @@ use Rattle.std.proofs.Common.{ap, map, sym, subst}
 use Rattle.std.specs.Prelude.{All}
 use Rattle.std.proofs.lemmas.List.Elements.{All-nil}
 use Rattle.std.proofs.lemmas.Result.{IfOk-weaker}
-use Rattle.plan_tree.specs.Views.{path}
-use Rattle.join_search.specs.Joins.{IsJoinPath, IsPathAt}
-use Rattle.join_search.specs.Tables.{none, paths_at}
+use Rattle.plan_tree.specs.work.Views.{path}
+use Rattle.join_search.specs.work.Joins.{IsJoinPath, IsPathAt}
+use Rattle.join_search.specs.work.Tables.{none, paths_at}
 use Rattle.join_search.proofs.FrontingLemmas.{contained}
 use Rattle.join_search.proofs.OfferLemmas.{joins-there}
 use Rattle.join_search.proofs.likely.joins_either.Goals as goal

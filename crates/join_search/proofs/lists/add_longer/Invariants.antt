@@ -1,6 +1,6 @@
 use Rattle.std.proofs.Common.{◌≡◌, ◌++◌, take}
-use Rattle.pathkeys.specs.Finding.{class_numbers}
-use Rattle.join_search.specs.Merges.{longer}
+use Rattle.pathkeys.specs.work.Finding.{class_numbers}
+use Rattle.join_search.specs.work.Merges.{longer}
 use Rattle.join_search.proofs.lists.add_longer.Given as goal
 
 abbrev pub invariant-loop-c : goal.invariant-loop-c

@@ -1,6 +1,6 @@
 use Rattle.std.proofs.Common.{◌∙◌, ap, arith, take, sym}
 use Rattle.pg_base.specs.Sets.{has}
-use Rattle.pathkeys.specs.Finding.{class_numbers}
+use Rattle.pathkeys.specs.work.Finding.{class_numbers}
 use Rattle.eq_classes.specs.Clauses.{ClassTable}
 use Rattle.eq_classes.specs.Parts.{joining_from}
 use Rattle.join_search.proofs.ListLemmas.{four-long, joining-all, joining-more, somes-nil}

@@ -2,10 +2,10 @@ use Rattle.std.proofs.Common.{◌≡◌, ◌∙◌, List, ap, sym, subst}
 use Rattle.std.specs.Prelude.{All, Contains}
 use Rattle.std.proofs.lemmas.Result.{IfOk-weaker}
 use Rattle.pg_base.specs.Sets.{has}
-use Rattle.pathkeys.specs.Finding.{class_numbers}
+use Rattle.pathkeys.specs.work.Finding.{class_numbers}
 use Rattle.pathkeys.specs.Keys.{Keys}
 use Rattle.plan_tree.specs.Space.{IsMergeList}
-use Rattle.join_search.specs.Merges.{lists_of}
+use Rattle.join_search.specs.work.Merges.{lists_of}
 use Rattle.join_search.proofs.ListLemmas.{list-complete, list-sound}
 use Rattle.join_search.proofs.lists.merge_lists.Goals as goal
 

@@ -1,8 +1,8 @@
 use Rattle.std.proofs.Common.{subst}
 use Rattle.std.specs.Prelude.{All}
 use Rattle.plan_tree.proofs.BoundLemmas.{lawful-rows}
-use Rattle.join_search.specs.Merges.{IsNoCheaper}
-use Rattle.join_search.specs.Tables.{none, paths_at}
+use Rattle.join_search.specs.work.Merges.{IsNoCheaper}
+use Rattle.join_search.specs.work.Tables.{none, paths_at}
 use Rattle.join_search.proofs.PastLemmas.{merges-past}
 use Rattle.join_search.proofs.merges.are_merges_past.Goals as goal
 

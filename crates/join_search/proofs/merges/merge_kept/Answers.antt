@@ -1,7 +1,7 @@
 use Rattle.std.proofs.Common.{◌∙◌, ap, sym, length}
 use Rattle.std.proofs.lemmas.List.{length-map}
 use Rattle.pathkeys.specs.Keys.{Keys}
-use Rattle.join_search.specs.Merges.{side_path}
+use Rattle.join_search.specs.work.Merges.{side_path}
 use Rattle.join_search.proofs.MergeLemmas.{merge-reckoned}
 use Rattle.join_search.proofs.merges.merge_kept.Goals as goal
 

@@ -3,7 +3,7 @@ use Rattle.pg_base.specs.Sets.{has}
 use Rattle.eq_classes.specs.Parts.{is_join}
 use Rattle.path_cost.specs.Costs.{operators}
 use Rattle.path_cost.specs.Estimates.{conditions_where, is_pair_of, pairs}
-use Rattle.pathkeys.specs.Finding.{class_numbers}
+use Rattle.pathkeys.specs.work.Finding.{class_numbers}
 use Rattle.plan_tree.proofs.JoinLemmas.{merge_operators_are}
 use Rattle.join_search.proofs.merges.merge_work.Goals as goal
 

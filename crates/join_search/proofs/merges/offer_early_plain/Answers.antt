@@ -1,8 +1,8 @@
 use Rattle.std.proofs.Common.{◌≡◌, ◌<◌, map, true, arith}
 use Rattle.pathkeys.specs.Keys.{covers}
-use Rattle.plan_tree.specs.Views.{path}
-use Rattle.join_search.specs.Merges.{AreOutersServed}
-use Rattle.join_search.specs.Tables.{none, paths_at}
+use Rattle.plan_tree.specs.work.Views.{path}
+use Rattle.join_search.specs.work.Merges.{AreOutersServed}
+use Rattle.join_search.specs.work.Tables.{none, paths_at}
 use Rattle.join_search.proofs.ItemLemmas.{item-there, items-all, items-more}
 use Rattle.join_search.proofs.MergeLemmas.{outers-later}
 use Rattle.join_search.proofs.OfferLemmas.{takes-none, takes-then}

@@ -1,10 +1,10 @@
 use Rattle.std.proofs.Common.{◌≡◌, ◌<◌, map, take, true}
 use Rattle.std.specs.Prelude.{All}
 use Rattle.pathkeys.specs.Keys.{covers}
-use Rattle.plan_tree.specs.Views.{path}
-use Rattle.join_search.specs.Merges.{AreOutersServed}
-use Rattle.join_search.specs.Offers.{TakesJoins}
-use Rattle.join_search.specs.Tables.{none, paths_at}
+use Rattle.plan_tree.specs.work.Views.{path}
+use Rattle.join_search.specs.work.Merges.{AreOutersServed}
+use Rattle.join_search.specs.work.Offers.{TakesJoins}
+use Rattle.join_search.specs.work.Tables.{none, paths_at}
 use Rattle.join_search.proofs.merges.offer_early_plain.Given as goal
 
 -- the merges with the inner paths so far, where their keys begin with the list and they start before the cost, were offered

@@ -1,13 +1,13 @@
 use Rattle.std.proofs.Common.{◌∙◌, ap, map, refl, sym, subst}
 use Rattle.std.proofs.lemmas.Result.{on_ok_weaker}
 use Rattle.pg_base.specs.Sets.{has}
-use Rattle.plan_tree.specs.Fronts.{HasDominating}
+use Rattle.plan_tree.specs.work.Fronts.{HasDominating}
 use Rattle.plan_tree.specs.Keys.{keys_of}
-use Rattle.plan_tree.specs.Views.{path}
-use Rattle.join_search.specs.Joins.{IsJoinOfKept}
-use Rattle.join_search.specs.Merges.{merge_of, side_path}
-use Rattle.join_search.specs.Splits.{IsJoinOf, kept_of}
-use Rattle.join_search.specs.Tables.{paths_at}
+use Rattle.plan_tree.specs.work.Views.{path}
+use Rattle.join_search.specs.work.Joins.{IsJoinOfKept}
+use Rattle.join_search.specs.work.Merges.{merge_of, side_path}
+use Rattle.join_search.specs.work.Splits.{IsJoinOf, kept_of}
+use Rattle.join_search.specs.work.Tables.{paths_at}
 use Rattle.join_search.proofs.KeyLemmas.{AreClasses, side-classes}
 use Rattle.join_search.proofs.MergeLemmas.{merge-exact, merge-least, side-at, sides-keys, sides-kept, sides-plan}
 use Rattle.join_search.proofs.OfferLemmas.{at-most-same, dominating-serves, joins-there}

@@ -3,9 +3,9 @@ use Rattle.std.specs.Prelude.{All, Contains, List}
 use Rattle.pathkeys.specs.Keys.{Keys}
 use Rattle.pg_base.specs.Sets.{has}
 use Rattle.plan_tree.specs.Space.{IsMergeList}
-use Rattle.plan_tree.specs.Views.{path}
-use Rattle.join_search.specs.Offers.{AreMergesServed}
-use Rattle.join_search.specs.Tables.{none, paths_at}
+use Rattle.plan_tree.specs.work.Views.{path}
+use Rattle.join_search.specs.work.Offers.{AreMergesServed}
+use Rattle.join_search.specs.work.Tables.{none, paths_at}
 use Rattle.join_search.proofs.ItemLemmas.{all-at, all-more, all-taken, empty-lent}
 use Rattle.join_search.proofs.MergeLemmas.{merges-all, merges-later, merges-none}
 use Rattle.join_search.proofs.OfferLemmas.{takes-none, takes-then}

@@ -1,8 +1,8 @@
 use Rattle.std.proofs.Common.{map, take}
 use Rattle.std.specs.Prelude.{All}
-use Rattle.plan_tree.specs.Views.{path}
-use Rattle.join_search.specs.Offers.{AreMergesServed, TakesJoins}
-use Rattle.join_search.specs.Tables.{none, paths_at}
+use Rattle.plan_tree.specs.work.Views.{path}
+use Rattle.join_search.specs.work.Offers.{AreMergesServed, TakesJoins}
+use Rattle.join_search.specs.work.Tables.{none, paths_at}
 use Rattle.join_search.proofs.merges.offer_merges.Given as goal
 
 -- the merges by the lists so far were offered

@@ -2,12 +2,12 @@ use Rattle.std.proofs.Common.{map, subst}
 use Rattle.std.specs.Prelude.{List}
 use Rattle.std.proofs.lemmas.List.Elements.{All-contains}
 use Rattle.std.proofs.lemmas.Result.{on_ok_weaker}
-use Rattle.plan_tree.specs.Paths.{Path}
-use Rattle.plan_tree.specs.Views.{path}
+use Rattle.plan_tree.specs.work.Paths.{Path}
+use Rattle.plan_tree.specs.work.Views.{path}
 use Rattle.plan_tree.proofs.BoundLemmas.{lawful-rows}
-use Rattle.join_search.specs.Joins.{IsPathAt}
-use Rattle.join_search.specs.Merges.{IsBestSide, IsSideOf, side_path, side_plan}
-use Rattle.join_search.specs.Tables.{none, paths_at}
+use Rattle.join_search.specs.work.Joins.{IsPathAt}
+use Rattle.join_search.specs.work.Merges.{IsBestSide, IsSideOf, side_path, side_plan}
+use Rattle.join_search.specs.work.Tables.{none, paths_at}
 use Rattle.join_search.proofs.ItemLemmas.{lent-at, none-lent}
 use Rattle.join_search.proofs.MergeLemmas.{merges-none, merges-served, outers-later}
 use Rattle.join_search.proofs.OfferLemmas.{takes-none, takes-then}

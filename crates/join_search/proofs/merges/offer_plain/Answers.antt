@@ -1,10 +1,10 @@
 use Rattle.std.proofs.Common.{◌≡◌, map, true, arith}
 use Rattle.pathkeys.specs.Keys.{covers}
-use Rattle.join_search.specs.Sufficing.{IsServed}
+use Rattle.join_search.specs.work.Sufficing.{IsServed}
 use Rattle.plan_tree.specs.Plans.{merge}
-use Rattle.plan_tree.specs.Views.{path}
-use Rattle.join_search.specs.Merges.{side_plan}
-use Rattle.join_search.specs.Tables.{none, paths_at}
+use Rattle.plan_tree.specs.work.Views.{path}
+use Rattle.join_search.specs.work.Merges.{side_plan}
+use Rattle.join_search.specs.work.Tables.{none, paths_at}
 use Rattle.join_search.proofs.ItemLemmas.{item-there, items-all, items-more}
 use Rattle.join_search.proofs.OfferLemmas.{served-later, takes-none, takes-then}
 use Rattle.join_search.proofs.merges.offer_plain.Goals as goal

@@ -1,12 +1,12 @@
 use Rattle.std.proofs.Common.{◌≡◌, map, take, true}
 use Rattle.std.specs.Prelude.{All}
 use Rattle.pathkeys.specs.Keys.{covers}
-use Rattle.join_search.specs.Sufficing.{IsServed}
+use Rattle.join_search.specs.work.Sufficing.{IsServed}
 use Rattle.plan_tree.specs.Plans.{merge}
-use Rattle.plan_tree.specs.Views.{path}
-use Rattle.join_search.specs.Merges.{side_plan}
-use Rattle.join_search.specs.Offers.{TakesJoins}
-use Rattle.join_search.specs.Tables.{paths_at}
+use Rattle.plan_tree.specs.work.Views.{path}
+use Rattle.join_search.specs.work.Merges.{side_plan}
+use Rattle.join_search.specs.work.Offers.{TakesJoins}
+use Rattle.join_search.specs.work.Tables.{paths_at}
 use Rattle.join_search.proofs.merges.offer_plain.Given as goal
 
 -- the merges of the outer paths so far, where their keys begin with the list, were offered

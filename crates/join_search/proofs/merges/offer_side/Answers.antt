@@ -1,8 +1,8 @@
 use Rattle.std.proofs.Common.{map}
 use Rattle.std.proofs.lemmas.Result.{on_ok_weaker}
-use Rattle.plan_tree.specs.Views.{path}
-use Rattle.join_search.specs.Merges.{side_plan}
-use Rattle.join_search.specs.Tables.{none, paths_at}
+use Rattle.plan_tree.specs.work.Views.{path}
+use Rattle.join_search.specs.work.Merges.{side_plan}
+use Rattle.join_search.specs.work.Tables.{none, paths_at}
 use Rattle.join_search.proofs.MergeLemmas.{outers-served, plain-later}
 use Rattle.join_search.proofs.OfferLemmas.{takes-then}
 use Rattle.join_search.proofs.merges.offer_side.Goals as goal

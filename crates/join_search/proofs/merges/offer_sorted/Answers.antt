@@ -1,9 +1,9 @@
 use Rattle.std.proofs.Common.{map}
 use Rattle.std.proofs.lemmas.Bool.{true≢false}
 use Rattle.std.proofs.lemmas.Result.{on_ok_weaker}
-use Rattle.plan_tree.specs.Views.{path}
-use Rattle.join_search.specs.Merges.{side_plan}
-use Rattle.join_search.specs.Tables.{none, paths_at}
+use Rattle.plan_tree.specs.work.Views.{path}
+use Rattle.join_search.specs.work.Merges.{side_plan}
+use Rattle.join_search.specs.work.Tables.{none, paths_at}
 use Rattle.join_search.proofs.ItemLemmas.{cheapest-lent, contains-lent, none-lent}
 use Rattle.join_search.proofs.MergeLemmas.{sorted-none, sorted-served}
 use Rattle.join_search.proofs.OfferLemmas.{takes-none}

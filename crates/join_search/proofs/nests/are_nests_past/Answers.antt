@@ -1,7 +1,7 @@
 use Rattle.std.proofs.Common.{subst}
 use Rattle.std.specs.Prelude.{All}
-use Rattle.join_search.specs.Merges.{IsNoCheaper}
-use Rattle.join_search.specs.Tables.{none, paths_at}
+use Rattle.join_search.specs.work.Merges.{IsNoCheaper}
+use Rattle.join_search.specs.work.Tables.{none, paths_at}
 use Rattle.join_search.proofs.PastLemmas.{nests-past}
 use Rattle.join_search.proofs.nests.are_nests_past.Goals as goal
 

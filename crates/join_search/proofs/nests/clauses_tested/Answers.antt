@@ -1,5 +1,5 @@
 use Rattle.std.proofs.Common.{arith}
-use Rattle.plan_tree.specs.Views.{path}
+use Rattle.plan_tree.specs.work.Views.{path}
 use Rattle.join_search.proofs.TestedLemmas.{few-relation, tested-given, tested-whole}
 use Rattle.join_search.proofs.nests.clauses_tested.Goals as goal
 

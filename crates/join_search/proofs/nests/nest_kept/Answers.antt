@@ -1,4 +1,4 @@
-use Rattle.plan_tree.specs.Views.{path}
+use Rattle.plan_tree.specs.work.Views.{path}
 use Rattle.join_search.proofs.NestLemmas.{nest-reckoned}
 use Rattle.join_search.proofs.nests.nest_kept.Goals as goal
 

@@ -2,9 +2,10 @@ use Rattle.std.proofs.Common.{◌-◌, ◌^◌, ◌∙◌, ap, min}
 use Rattle.pg_base.specs.Sets.{has}
 use Rattle.eq_classes.specs.Clauses.{ClassTable}
 use Rattle.path_cost.specs.Costs.{operators}
-use Rattle.path_cost.specs.Estimates.{conditions_from, either_but}
+use Rattle.path_cost.specs.Estimates.{conditions_from}
+use Rattle.path_cost.specs.work.Estimates.{either_but}
 use Rattle.plan_tree.specs.Plans.{joins}
-use Rattle.plan_tree.specs.Views.{path}
+use Rattle.plan_tree.specs.work.Views.{path}
 use Rattle.plan_tree.proofs.JoinLemmas.{join_operators_are}
 use Rattle.join_search.proofs.nests.nest_ops.Goals as goal
 

@@ -1,7 +1,7 @@
 use Rattle.std.proofs.Common.{arith, map}
 use Rattle.plan_tree.specs.Plans.{nest}
-use Rattle.plan_tree.specs.Views.{path}
-use Rattle.join_search.specs.Tables.{none, paths_at}
+use Rattle.plan_tree.specs.work.Views.{path}
+use Rattle.join_search.specs.work.Tables.{none, paths_at}
 use Rattle.join_search.proofs.ItemLemmas.{item-there, served-all, served-more}
 use Rattle.join_search.proofs.OfferLemmas.{takes-none, takes-then}
 use Rattle.join_search.proofs.nests.offer_each_nest.Goals as goal

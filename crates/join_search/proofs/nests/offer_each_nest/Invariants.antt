@@ -1,10 +1,10 @@
 use Rattle.std.proofs.Common.{map, take}
 use Rattle.std.specs.Prelude.{All}
-use Rattle.join_search.specs.Sufficing.{IsServed}
+use Rattle.join_search.specs.work.Sufficing.{IsServed}
 use Rattle.plan_tree.specs.Plans.{nest}
-use Rattle.plan_tree.specs.Views.{path}
-use Rattle.join_search.specs.Offers.{TakesJoins}
-use Rattle.join_search.specs.Tables.{paths_at}
+use Rattle.plan_tree.specs.work.Views.{path}
+use Rattle.join_search.specs.work.Offers.{TakesJoins}
+use Rattle.join_search.specs.work.Tables.{paths_at}
 use Rattle.join_search.proofs.nests.offer_each_nest.Given as goal
 
 -- the nested loops of the outer paths so far were offered

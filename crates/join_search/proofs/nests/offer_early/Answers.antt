@@ -1,7 +1,7 @@
 use Rattle.std.proofs.Common.{◌<◌, map, arith}
-use Rattle.plan_tree.specs.Views.{path}
-use Rattle.join_search.specs.Offers.{AreEachServed}
-use Rattle.join_search.specs.Tables.{none, paths_at}
+use Rattle.plan_tree.specs.work.Views.{path}
+use Rattle.join_search.specs.work.Offers.{AreEachServed}
+use Rattle.join_search.specs.work.Tables.{none, paths_at}
 use Rattle.join_search.proofs.ItemLemmas.{item-there, items-all, items-more}
 use Rattle.join_search.proofs.NestLemmas.{each-later}
 use Rattle.join_search.proofs.OfferLemmas.{takes-none, takes-then}

@@ -1,8 +1,8 @@
 use Rattle.std.proofs.Common.{◌<◌, map, take}
 use Rattle.std.specs.Prelude.{All}
-use Rattle.plan_tree.specs.Views.{path}
-use Rattle.join_search.specs.Offers.{AreEachServed, TakesJoins}
-use Rattle.join_search.specs.Tables.{none, paths_at}
+use Rattle.plan_tree.specs.work.Views.{path}
+use Rattle.join_search.specs.work.Offers.{AreEachServed, TakesJoins}
+use Rattle.join_search.specs.work.Tables.{none, paths_at}
 use Rattle.join_search.proofs.nests.offer_early.Given as goal
 
 -- the nested loops with the inner paths so far, where they start before the cost, were offered

@@ -1,12 +1,12 @@
 use Rattle.std.proofs.Common.{◌∙◌, ap, map, refl, sym, subst}
 use Rattle.std.proofs.lemmas.Result.{on_ok_weaker}
-use Rattle.plan_tree.specs.Fronts.{HasDominating}
+use Rattle.plan_tree.specs.work.Fronts.{HasDominating}
 use Rattle.plan_tree.specs.Keys.{keys_of}
 use Rattle.plan_tree.specs.Plans.{nest}
-use Rattle.plan_tree.specs.Views.{path}
-use Rattle.join_search.specs.Joins.{IsJoinOfKept}
-use Rattle.join_search.specs.Splits.{IsJoinOf, kept_of}
-use Rattle.join_search.specs.Tables.{none, paths_at}
+use Rattle.plan_tree.specs.work.Views.{path}
+use Rattle.join_search.specs.work.Joins.{IsJoinOfKept}
+use Rattle.join_search.specs.work.Splits.{IsJoinOf, kept_of}
+use Rattle.join_search.specs.work.Tables.{none, paths_at}
 use Rattle.join_search.proofs.ItemLemmas.{there-at, there-kept}
 use Rattle.join_search.proofs.KeyLemmas.{path-classes}
 use Rattle.join_search.proofs.NestLemmas.{nest-exact, nest-least, nest-plan}

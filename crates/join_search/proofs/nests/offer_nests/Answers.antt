@@ -1,9 +1,9 @@
 use Rattle.std.proofs.Common.{◌∙◌, map, arith}
 use Rattle.std.proofs.lemmas.List.Elements.{All-more, All-weaker}
-use Rattle.plan_tree.specs.Views.{path}
+use Rattle.plan_tree.specs.work.Views.{path}
 use Rattle.pg_base.specs.declared.rel_set.RelSet.{RelSet}
-use Rattle.join_search.specs.Offers.{AreNestsServed}
-use Rattle.join_search.specs.Tables.{none, paths_at}
+use Rattle.join_search.specs.work.Offers.{AreNestsServed}
+use Rattle.join_search.specs.work.Tables.{none, paths_at}
 use Rattle.join_search.proofs.ItemLemmas.{all-taken}
 use Rattle.join_search.proofs.NestLemmas.{nests-all, nests-later}
 use Rattle.join_search.proofs.OfferLemmas.{takes-none, takes-then}

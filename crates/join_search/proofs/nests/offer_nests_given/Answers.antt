@@ -1,7 +1,7 @@
 use Rattle.std.proofs.Common.{map}
 use Rattle.std.proofs.lemmas.Result.{on_ok_weaker}
-use Rattle.plan_tree.specs.Views.{path}
-use Rattle.join_search.specs.Tables.{none, paths_at}
+use Rattle.plan_tree.specs.work.Views.{path}
+use Rattle.join_search.specs.work.Tables.{none, paths_at}
 use Rattle.join_search.proofs.ItemLemmas.{cheapest-lent, contains-lent, none-lent}
 use Rattle.join_search.proofs.NestLemmas.{each-later, nests-none, nests-served}
 use Rattle.join_search.proofs.OfferLemmas.{takes-none, takes-then}

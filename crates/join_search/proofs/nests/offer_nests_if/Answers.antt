@@ -1,6 +1,6 @@
 use Rattle.std.proofs.Common.{◌∙◌, map, sym, true≢false}
-use Rattle.plan_tree.specs.Views.{path}
-use Rattle.join_search.specs.Tables.{paths_at}
+use Rattle.plan_tree.specs.work.Views.{path}
+use Rattle.join_search.specs.work.Tables.{paths_at}
 use Rattle.join_search.proofs.NestLemmas.{nests-apart}
 use Rattle.join_search.proofs.OfferLemmas.{takes-none}
 use Rattle.join_search.proofs.nests.offer_nests_if.Goals as goal

@@ -1,5 +1,5 @@
-use Rattle.plan_tree.specs.Views.{path}
-use Rattle.join_search.specs.Tables.{paths_at}
+use Rattle.plan_tree.specs.work.Views.{path}
+use Rattle.join_search.specs.work.Tables.{paths_at}
 use Rattle.join_search.proofs.ItemLemmas.{there-at, there-kept}
 use Rattle.join_search.proofs.NestLemmas.{given-inner}
 use Rattle.join_search.proofs.nests.offer_nests_of.Goals as goal

@@ -2,8 +2,8 @@ use Rattle.std.proofs.Common.{map, subst}
 use Rattle.std.proofs.lemmas.Result.{IfOk-weaker}
 use Rattle.pg_base.specs.Sets.{has}
 use Rattle.pathkeys.specs.Keys.{Keys}
-use Rattle.plan_tree.specs.Views.{path}
-use Rattle.join_search.specs.Sufficing.{IsPartOfUse}
+use Rattle.plan_tree.specs.work.Views.{path}
+use Rattle.join_search.specs.work.Sufficing.{IsPartOfUse}
 use Rattle.join_search.proofs.OfferLemmas.{beaten-more, beaten-sufficient, past-more}
 use Rattle.join_search.proofs.offers.is_passed_over.Goals as goal
 

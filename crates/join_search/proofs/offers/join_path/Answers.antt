@@ -1,4 +1,4 @@
-use Rattle.plan_tree.specs.Views.{plan}
+use Rattle.plan_tree.specs.work.Views.{plan}
 use Rattle.plan_tree.proofs.BoundLemmas.{lawful-rows}
 use Rattle.join_search.proofs.OfferLemmas.{join-path}
 use Rattle.join_search.proofs.offers.join_path.Goals as goal

@@ -1,5 +1,5 @@
 use Rattle.std.proofs.lemmas.Result.{on_ok_weaker}
-use Rattle.plan_tree.specs.Views.{plan}
+use Rattle.plan_tree.specs.work.Views.{plan}
 use Rattle.kept_paths.proofs.PlaceLemmas.{covers-there}
 use Rattle.join_search.proofs.OfferLemmas.{join-served, join-takes}
 use Rattle.join_search.proofs.offers.offer_join.Goals as goal

@@ -1,6 +1,6 @@
 use Rattle.std.proofs.Common.{◌∙◌, sym}
-use Rattle.plan_tree.specs.Views.{path}
-use Rattle.join_search.specs.Tables.{none, paths_at}
+use Rattle.plan_tree.specs.work.Views.{path}
+use Rattle.join_search.specs.work.Tables.{none, paths_at}
 use Rattle.join_search.proofs.ItemLemmas.{contains-lent, none-lent, there-at}
 use Rattle.join_search.proofs.PlanLemmas.{at-none, at-set, whole-rows}
 use Rattle.join_search.proofs.SearchLemmas.{split-none}

@@ -1,9 +1,9 @@
 use Rattle.std.proofs.Common.{List, take}
 use Rattle.std.specs.Prelude.{All}
 use Rattle.pg_base.specs.declared.rel_set.RelSet.{RelSet}
-use Rattle.plan_tree.specs.Paths.{Path}
-use Rattle.join_search.specs.Offers.{AreNestsServed}
-use Rattle.join_search.specs.Tables.{none, paths_at}
+use Rattle.plan_tree.specs.work.Paths.{Path}
+use Rattle.join_search.specs.work.Offers.{AreNestsServed}
+use Rattle.join_search.specs.work.Tables.{none, paths_at}
 use Rattle.join_search.proofs.past.are_nests_past.Given as goal
 
 -- the nested loops with the inner paths of the parameterisations so far are past the limit

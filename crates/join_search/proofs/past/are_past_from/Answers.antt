@@ -1,5 +1,5 @@
 use Rattle.std.proofs.Common.{[], arith}
-use Rattle.join_search.specs.Tables.{none, paths_at}
+use Rattle.join_search.specs.work.Tables.{none, paths_at}
 use Rattle.join_search.proofs.MergeLemmas.{merges-all}
 use Rattle.join_search.proofs.PastLemmas.{not-true}
 use Rattle.join_search.proofs.past.are_past_from.Goals as goal

@@ -1,5 +1,6 @@
 use Rattle.std.proofs.Common.{arith}
-use Rattle.cost_rules.specs.Costs.{IsAtMost, pair}
+use Rattle.cost_rules.specs.Costs.{pair}
+use Rattle.cost_rules.specs.work.Costs.{IsAtMost}
 use Rattle.cost_rules.specs.declared.pair.Pair.{Pair}
 use Rattle.join_search.proofs.OfferLemmas.{floor-rises}
 use Rattle.join_search.proofs.PastLemmas.{not-true}

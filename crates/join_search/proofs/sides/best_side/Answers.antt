@@ -1,10 +1,10 @@
 use Rattle.std.proofs.Common.{ap, map}
 use Rattle.std.proofs.lemmas.List.Elements.{All-contains}
 use Rattle.cost_rules.specs.declared.pair.Pair.{Pair}
-use Rattle.plan_tree.specs.Views.{path}
+use Rattle.plan_tree.specs.work.Views.{path}
 use Rattle.plan_tree.proofs.FrontLemmas.{contains-mapped}
-use Rattle.join_search.specs.Joins.{IsPathAt}
-use Rattle.join_search.specs.Tables.{none}
+use Rattle.join_search.specs.work.Joins.{IsPathAt}
+use Rattle.join_search.specs.work.Tables.{none}
 use Rattle.join_search.proofs.MergeLemmas.{best-either, best-none, paths-below}
 use Rattle.join_search.proofs.sides.best_side.Goals as goal
 

@@ -1,8 +1,9 @@
 use Rattle.std.proofs.Common.{◌∙◌, ap}
-use Rattle.cost_rules.specs.Costs.{capped_pair, sort_cost}
+use Rattle.cost_rules.specs.Costs.{sort_cost}
+use Rattle.cost_rules.specs.work.Costs.{capped_pair}
 use Rattle.cost_rules.specs.declared.pair.Pair.{Pair}
-use Rattle.plan_tree.specs.Paths.{kept_cost}
-use Rattle.join_search.specs.Merges.{side_path}
+use Rattle.plan_tree.specs.work.Paths.{kept_cost}
+use Rattle.join_search.specs.work.Merges.{side_path}
 use Rattle.join_search.proofs.MergeLemmas.{side-plain, side-sorted}
 use Rattle.join_search.proofs.sides.side_cost.Goals as goal
 

@@ -1,4 +1,4 @@
-use Rattle.plan_tree.specs.Views.{path}
+use Rattle.plan_tree.specs.work.Views.{path}
 use Rattle.plan_tree.proofs.PathLemmas.{built-below}
 use Rattle.join_search.proofs.splits.path_rows.Goals as goal
 

@@ -1,7 +1,7 @@
 use Rattle.std.proofs.Common.{◌∙◌, refl, ap}
 use Rattle.std.proofs.lemmas.Bool.{eq-eqb}
 use Rattle.join_search.specs.declared.table.Placed.{Placed}
-use Rattle.join_search.specs.Tables.{found_at}
+use Rattle.join_search.specs.work.Tables.{found_at}
 use Rattle.join_search.proofs.TableLemmas.{added-here, added-others, no-other}
 use Rattle.join_search.proofs.table.add.Goals as goal
 

@@ -1,6 +1,6 @@
 use Rattle.std.proofs.Common.{◌≡◌, ◌∙◌, false, sym, subst, take_all}
 use Rattle.std.specs.Prelude.{All}
-use Rattle.join_search.specs.Tables.{is_at}
+use Rattle.join_search.specs.work.Tables.{is_at}
 use Rattle.join_search.proofs.TableLemmas.{first-found, none-found}
 use Rattle.join_search.proofs.table.find.Goals as goal
 

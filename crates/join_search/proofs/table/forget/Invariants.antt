@@ -1,6 +1,6 @@
 use Rattle.std.proofs.Common.{◌≡◌, ◌⊎◌, ◌<◌, ℕ, [], length}
-use Rattle.join_search.specs.Joins.{IsSingle}
-use Rattle.join_search.specs.Tables.{list_at, set_numbered}
+use Rattle.join_search.specs.work.Joins.{IsSingle}
+use Rattle.join_search.specs.work.Tables.{list_at, set_numbered}
 use Rattle.join_search.proofs.table.forget.Given as goal
 
 -- as many lists as there were, those of single relations as they were, and of the others so far none has fronts

@@ -1,8 +1,8 @@
 use Rattle.std.proofs.Common.{◌∙◌, inl, inr, sym, subst}
 use Rattle.std.proofs.lemmas.Bool.{true≢false}
 use Rattle.std.proofs.lemmas.List.{length-set}
-use Rattle.join_search.specs.Joins.{IsSingle}
-use Rattle.join_search.specs.Tables.{set_numbered}
+use Rattle.join_search.specs.work.Joins.{IsSingle}
+use Rattle.join_search.specs.work.Tables.{set_numbered}
 use Rattle.join_search.proofs.TableLemmas.{list-others, list-set}
 use Rattle.join_search.proofs.table.forget_at.Goals as goal
 

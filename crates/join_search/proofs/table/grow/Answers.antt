@@ -1,5 +1,5 @@
 use Rattle.std.proofs.Common.{◌∙◌, ap}
-use Rattle.join_search.specs.Tables.{list_at}
+use Rattle.join_search.specs.work.Tables.{list_at}
 use Rattle.join_search.proofs.TableLemmas.{list-grown, one-longer}
 use Rattle.join_search.proofs.table.grow.Goals as goal
 

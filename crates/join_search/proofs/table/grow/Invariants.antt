@@ -1,5 +1,5 @@
 use Rattle.std.proofs.Common.{◌≡◌, ◌≤◌, ℕ, length}
-use Rattle.join_search.specs.Tables.{list_at}
+use Rattle.join_search.specs.work.Tables.{list_at}
 use Rattle.join_search.proofs.table.grow.Given as goal
 
 -- the lists are as they were, and as many as were gone through

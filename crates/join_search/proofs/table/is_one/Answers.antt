@@ -4,7 +4,7 @@ use Rattle.std.proofs.lemmas.Bool.Decides.{nat_tests}
 use Rattle.pg_base.specs.Sets.{has}
 use Rattle.pg_base.proofs.SetLaws.{has-zero}
 use Rattle.std.proofs.Common.{◌∙◌}
-use Rattle.join_search.specs.Tables.{set_numbered}
+use Rattle.join_search.specs.work.Tables.{set_numbered}
 use Rattle.join_search.proofs.SetLemmas.{power-single, single-some}
 use Rattle.join_search.proofs.table.is_one.Goals as goal
 

@@ -1,5 +1,5 @@
 use Rattle.std.proofs.Common.{◌∙◌, ap, take_all}
-use Rattle.join_search.specs.Tables.{params_of}
+use Rattle.join_search.specs.work.Tables.{params_of}
 use Rattle.join_search.proofs.TableLemmas.{params-more}
 use Rattle.join_search.proofs.table.params_in.Goals as goal
 

@@ -1,5 +1,5 @@
 use Rattle.std.proofs.Common.{◌≡◌, take}
-use Rattle.join_search.specs.Tables.{params_of}
+use Rattle.join_search.specs.work.Tables.{params_of}
 use Rattle.join_search.proofs.table.params_in.Given as goal
 
 abbrev pub invariant-loop-f : goal.invariant-loop-f

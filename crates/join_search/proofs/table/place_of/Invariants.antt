@@ -1,6 +1,6 @@
 use Rattle.std.proofs.Common.{◌≡◌, false, take}
 use Rattle.std.specs.Prelude.{All}
-use Rattle.join_search.specs.Tables.{is_at}
+use Rattle.join_search.specs.work.Tables.{is_at}
 use Rattle.join_search.proofs.table.place_of.Given as goal
 
 abbrev pub invariant-loop-n : goal.invariant-loop-n

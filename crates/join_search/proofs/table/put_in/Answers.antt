@@ -1,6 +1,6 @@
 use Rattle.std.proofs.Common.{◌∙◌, ap}
 use Rattle.std.specs.Prelude.{Some}
-use Rattle.join_search.specs.Tables.{found_at}
+use Rattle.join_search.specs.work.Tables.{found_at}
 use Rattle.join_search.proofs.TableLemmas.{put-set}
 use Rattle.join_search.proofs.table.put_in.Goals as goal
 

@@ -1,6 +1,6 @@
 use Rattle.std.proofs.Common.{◌≡◌, None, refl, subst, sym, ◌∙◌}
 use Rattle.pathkeys.specs.Keys.{Keys}
-use Rattle.kept_paths.specs.Bounds.{known_at}
+use Rattle.kept_paths.specs.work.Bounds.{known_at}
 use Rattle.kept_paths.proofs.ReadLemmas.{none-known, room-early, room-told, rooms-stay}
 use Rattle.kept_paths.proofs.bounds.add_room.Goals as goal
 

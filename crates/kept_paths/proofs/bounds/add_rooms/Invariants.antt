@@ -2,7 +2,7 @@ use Rattle.std.proofs.Common.{◌≡◌, ◌<◌, ℕ, take}
 use Rattle.std.specs.Option.{IsSome}
 use Rattle.pathkeys.specs.Keys.{Keys}
 use Rattle.cost_rules.specs.declared.pair.Pair.{Pair}
-use Rattle.kept_paths.specs.Bounds.{KeepsEarly, is_told, known_at}
+use Rattle.kept_paths.specs.work.Bounds.{KeepsEarly, is_told, known_at}
 use Rattle.kept_paths.proofs.bounds.add_rooms.Given as goal
 
 -- the shorter lists that the list begins with have room

@@ -4,7 +4,7 @@ use Rattle.std.specs.Option.{IsSome}
 use Rattle.pathkeys.specs.Keys.{Keys}
 use Rattle.pathkeys.proofs.CoveringLemmas.{covers-refl}
 use Rattle.cost_rules.specs.declared.pair.Pair.{Pair}
-use Rattle.kept_paths.specs.Bounds.{is_first, is_told, known_at}
+use Rattle.kept_paths.specs.work.Bounds.{is_first, is_told, known_at}
 use Rattle.kept_paths.proofs.ReadLemmas.{begins-own, earlier-more, lowered-each, lowered-more, passed, room-same}
 use Rattle.kept_paths.proofs.bounds.lower_each.Goals as goal
 

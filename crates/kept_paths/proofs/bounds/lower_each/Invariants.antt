@@ -2,7 +2,7 @@ use Rattle.std.proofs.Common.{◌≡◌, ◌&&◌, ◌||◌, ℕ, take}
 use Rattle.std.specs.Option.{IsSome}
 use Rattle.pathkeys.specs.Keys.{Keys}
 use Rattle.cost_rules.specs.declared.pair.Pair.{Pair}
-use Rattle.kept_paths.specs.Bounds.{EarlierEach, is_first, is_told, known_at}
+use Rattle.kept_paths.specs.work.Bounds.{EarlierEach, is_first, is_told, known_at}
 use Rattle.kept_paths.proofs.ReadLemmas.{passed}
 use Rattle.kept_paths.proofs.bounds.lower_each.Given as goal
 

@@ -1,10 +1,10 @@
 use Rattle.std.proofs.Common.{◌≡◌, ◌&&◌, ◌||◌, map, subst, sym, ◌∙◌, take}
 use Rattle.std.specs.Option.{IsSome}
 use Rattle.pathkeys.specs.Keys.{Keys, covers}
-use Rattle.plan_tree.specs.Views.{path}
+use Rattle.plan_tree.specs.work.Views.{path}
 use Rattle.plan_tree.proofs.FrontLemmas.{covers-itself}
 use Rattle.cost_rules.specs.declared.pair.Pair.{Pair}
-use Rattle.kept_paths.specs.Bounds.{EarlierEach, is_first, is_told, known_at, pair_of}
+use Rattle.kept_paths.specs.work.Bounds.{EarlierEach, is_first, is_told, known_at, pair_of}
 use Rattle.kept_paths.proofs.ToldLemmas.{early-kept, early-same, told-kept, told-same}
 use Rattle.kept_paths.proofs.kept.keep.Goals as goal
 

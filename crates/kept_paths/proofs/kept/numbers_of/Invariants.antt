@@ -1,5 +1,5 @@
 use Rattle.std.proofs.Common.{◌≡◌, take}
-use Rattle.pathkeys.specs.Finding.{class_numbers}
+use Rattle.pathkeys.specs.work.Finding.{class_numbers}
 use Rattle.kept_paths.proofs.kept.numbers_of.Given as goal
 
 abbrev pub invariant-loop-class : goal.invariant-loop-class

@@ -1,7 +1,7 @@
 use Rattle.std.proofs.Common.{subst, sym}
 use Rattle.std.specs.Prelude.{All, List}
-use Rattle.pareto.specs.Front.{IsCovered}
-use Rattle.plan_tree.specs.Views.{is_path_at_most}
+use Rattle.pareto.specs.work.Front.{IsCovered}
+use Rattle.plan_tree.specs.work.Views.{is_path_at_most}
 use Rattle.plan_tree.specs.declared.path.Path.{Path as Costed}
 use Rattle.plan_tree.proofs.FrontLemmas.{covers-itself}
 use Rattle.kept_paths.proofs.PlaceLemmas.{push-covers}

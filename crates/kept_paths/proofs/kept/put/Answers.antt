@@ -1,6 +1,6 @@
 use Rattle.std.proofs.Common.{List, length, get_or, ◌<◌, subst}
 use Rattle.std.specs.Prelude.{IsTrue}
-use Rattle.plan_tree.specs.Views.{is_path_at_most}
+use Rattle.plan_tree.specs.work.Views.{is_path_at_most}
 use Rattle.plan_tree.specs.declared.path.Path.{Path as Costed}
 use Rattle.kept_paths.proofs.PlaceLemmas.{set-covers, set-has}
 use Rattle.kept_paths.proofs.kept.put.Goals as goal

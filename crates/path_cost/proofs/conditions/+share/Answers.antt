@@ -1,8 +1,8 @@
 use Rattle.std.proofs.Common.{◌≡◌, ◌∙◌, sym, ap}
 use Rattle.pg_expr.specs.Cond.{all_of}
-use Rattle.pg_expr.specs.View as view
+use Rattle.pg_expr.specs.work.View as view
 use Rattle.path_cost.specs.declared.shares.TheConstants.{ALL_ROWS}
-use Rattle.path_cost.specs.Relations.{range_of}
+use Rattle.path_cost.specs.work.Relations.{range_of}
 use Rattle.path_cost.specs.Selectivity.{of_all, selectivity}
 use Rattle.path_cost.proofs.ListingLemmas.{parts_listed, parts_over_all}
 use Rattle.path_cost.proofs.PartLemmas.{and-is}

@@ -1,11 +1,11 @@
 use Rattle.std.proofs.Common.{◌≡◌, ◌≤◌, IsTrue, drop, map}
 use Rattle.pg_expr.specs.Columns.{each_column_of}
 use Rattle.pg_expr.specs.Typed.{AreTyped}
-use Rattle.pg_expr.specs.View.{cond, conds}
+use Rattle.pg_expr.specs.work.View.{cond, conds}
 use Rattle.path_cost.specs.declared.shares.TheConstants.{ALL_ROWS}
-use Rattle.path_cost.specs.Columns.{is_column_in}
+use Rattle.path_cost.specs.work.Columns.{is_column_in}
 use Rattle.catalog.specs.Range.{type_in}
-use Rattle.path_cost.specs.Relations.{range_of}
+use Rattle.path_cost.specs.work.Relations.{range_of}
 use Rattle.path_cost.specs.Selectivity.{of_all, of_any}
 use Rattle.path_cost.proofs.conditions.+share.Given as goal
 

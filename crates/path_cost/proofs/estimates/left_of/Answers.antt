@@ -2,8 +2,8 @@ use Rattle.std.proofs.Common.{◌∙◌, length, sym, ap, arith, subst, ◌≤�
 use Rattle.std.proofs.lemmas.List.Elements.{All-map}
 use Rattle.eq_classes.specs.Clauses.{Clause}
 use Rattle.exact_rows.specs.Rows.{share_kept}
-use Rattle.path_cost.specs.Columns.{IsOver}
-use Rattle.path_cost.specs.Estimates.{either}
+use Rattle.path_cost.specs.work.Columns.{IsOver}
+use Rattle.path_cost.specs.work.Estimates.{either}
 use Rattle.path_cost.specs.Ranges.{conditions}
 use Rattle.path_cost.proofs.KeptLemmas.{kept-no, kept-yes, share-some}
 use Rattle.path_cost.proofs.estimates.left_of.Goals.{then-is_in_either, else-is_in_either}

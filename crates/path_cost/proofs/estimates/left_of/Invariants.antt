@@ -1,5 +1,5 @@
 use Rattle.std.proofs.Common.{◌≡◌, ◌≤◌, length}
-use Rattle.path_cost.specs.Estimates.{either}
+use Rattle.path_cost.specs.work.Estimates.{either}
 use Rattle.path_cost.specs.Ranges.{conditions}
 use Rattle.path_cost.proofs.KeptLemmas.{left_after}
 use Rattle.path_cost.proofs.estimates.left_of.Given as goal

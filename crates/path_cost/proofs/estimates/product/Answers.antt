@@ -1,6 +1,6 @@
 use Rattle.std.proofs.Common.{◌∙◌, ◌+◌, ◌*◌, ◌≤◌, sym, ap, subst, arith, length}
 use Rattle.pg_base.specs.Sets.{has}
-use Rattle.exact_rows.specs.Rows.{most_of}
+use Rattle.exact_rows.specs.work.Rows.{most_of}
 use Rattle.exact_rows.proofs.RoomLemmas.{one-more}
 use Rattle.path_cost.proofs.ProductLemmas.{has-room, one-less, product-all, product-no, product-yes, some-more}
 use Rattle.path_cost.proofs.estimates.product.Goals.{then-has, else-has}

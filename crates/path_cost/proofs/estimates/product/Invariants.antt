@@ -1,6 +1,6 @@
 use Rattle.std.proofs.Common.{◌≡◌, ◌≤◌, ◌-◌, length}
 use Rattle.pg_base.specs.Sets.{has}
-use Rattle.exact_rows.specs.Rows.{most_of}
+use Rattle.exact_rows.specs.work.Rows.{most_of}
 use Rattle.path_cost.specs.Estimates.{set_numbers_from, product_from, product_rows, relations}
 use Rattle.path_cost.proofs.estimates.product.Given as goal
 

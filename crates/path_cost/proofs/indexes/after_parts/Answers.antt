@@ -1,10 +1,10 @@
 use Rattle.std.proofs.Common.{◌∙◌, ◌≤◌, length, map, sym, ap, arith, subst}
 use Rattle.std.proofs.lemmas.List.{length-map}
 use Rattle.std.proofs.lemmas.List.Elements.{All-map}
-use Rattle.pg_expr.specs.AtomSets.{contains}
-use Rattle.pg_expr.specs.View as view
+use Rattle.pg_expr.specs.work.AtomSets.{contains}
+use Rattle.pg_expr.specs.work.View as view
 use Rattle.exact_rows.specs.Rows.{share_kept}
-use Rattle.path_cost.specs.Columns.{IsOver}
+use Rattle.path_cost.specs.work.Columns.{IsOver}
 use Rattle.path_cost.proofs.KeptLemmas.{kept-no, kept-yes, share-some}
 use Rattle.path_cost.proofs.indexes.after_parts.Goals.{then-has, else-has}
 use Rattle.path_cost.proofs.indexes.after_parts.Goals as goal

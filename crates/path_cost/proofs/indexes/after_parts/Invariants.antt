@@ -1,6 +1,6 @@
 use Rattle.std.proofs.Common.{◌≡◌, ◌≤◌, map, length}
-use Rattle.pg_expr.specs.AtomSets.{contains}
-use Rattle.pg_expr.specs.View as view
+use Rattle.pg_expr.specs.work.AtomSets.{contains}
+use Rattle.pg_expr.specs.work.View as view
 use Rattle.path_cost.proofs.KeptLemmas.{left_after}
 use Rattle.path_cost.proofs.indexes.after_parts.Given as goal
 

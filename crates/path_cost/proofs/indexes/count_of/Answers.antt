@@ -1,5 +1,5 @@
 use Rattle.std.proofs.Common.{◌∙◌, sym, arith}
-use Rattle.pg_expr.specs.AtomSets.{contains}
+use Rattle.pg_expr.specs.work.AtomSets.{contains}
 use Rattle.path_cost.proofs.CountLemmas.{count-yes, count-no, count-all}
 use Rattle.path_cost.proofs.indexes.count_of.Goals.{then-has, else-has}
 use Rattle.path_cost.proofs.indexes.count_of.Goals as goal

@@ -1,7 +1,7 @@
 use Rattle.std.proofs.Common.{ap}
 use Rattle.std.specs.Option.{option_map}
-use Rattle.pg_expr.specs.View as view
-use Rattle.catalog.specs.Entries.{index_of}
+use Rattle.pg_expr.specs.work.View as view
+use Rattle.catalog.specs.work.Entries.{index_of}
 use Rattle.path_cost.proofs.PredicateLemmas.{predicate_typed}
 use Rattle.path_cost.proofs.indexes.entries.Goals as goal
 

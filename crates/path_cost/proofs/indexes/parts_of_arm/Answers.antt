@@ -1,9 +1,9 @@
 use Rattle.std.proofs.Common.{◌∙◌, false, All, map, sym, ap, subst}
 use Rattle.pg_expr.specs.declared.expr.Expr.{Expr}
 use Rattle.pg_expr.specs.Pushed.{parts_of}
-use Rattle.pg_expr.specs.View as view
+use Rattle.pg_expr.specs.work.View as view
 use Rattle.eq_classes.specs.Classes.{listed}
-use Rattle.path_cost.specs.Columns.{IsOver}
+use Rattle.path_cost.specs.work.Columns.{IsOver}
 use Rattle.path_cost.proofs.PartLemmas.{and-is, parts_over}
 use Rattle.eq_classes.proofs.ConditionLemmas.{listed_conds}
 use Rattle.path_cost.proofs.indexes.parts_of_arm.Goals as goal

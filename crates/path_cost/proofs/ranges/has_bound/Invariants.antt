@@ -1,5 +1,6 @@
 use Rattle.std.proofs.Common.{◌≡◌, false, take}
-use Rattle.path_cost.specs.Ranges.{conditions_of, has_bound}
+use Rattle.path_cost.specs.Ranges.{has_bound}
+use Rattle.path_cost.specs.work.Ranges.{conditions_of}
 use Rattle.path_cost.proofs.ranges.has_bound.Given as goal
 
 abbrev pub invariant-loop-n : goal.invariant-loop-n

@@ -1,6 +1,6 @@
 use Rattle.std.proofs.Common.{◌≡◌, ◌≤◌, min, drop}
-use Rattle.path_cost.specs.Ranges.{conditions_of}
-use Rattle.path_cost.specs.Relations.{range_of}
+use Rattle.path_cost.specs.work.Ranges.{conditions_of}
+use Rattle.path_cost.specs.work.Relations.{range_of}
 use Rattle.path_cost.specs.Selectivity.{least_bound}
 use Rattle.path_cost.proofs.ranges.least_bound.Given as goal
 

@@ -1,6 +1,7 @@
 use Rattle.std.proofs.Common.{◌≡◌, ◌∙◌, sym, ap, take, Some}
-use Rattle.path_cost.specs.Ranges.{bound_of, listed_condition, conditions_of}
-use Rattle.path_cost.specs.Relations.{range_of}
+use Rattle.path_cost.specs.Ranges.{bound_of, listed_condition}
+use Rattle.path_cost.specs.work.Ranges.{conditions_of}
+use Rattle.path_cost.specs.work.Relations.{range_of}
 use Rattle.path_cost.specs.Selectivity.{end_weight}
 use Rattle.path_cost.proofs.ranges.weight_of.Goals as goal
 

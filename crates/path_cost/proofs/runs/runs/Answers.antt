@@ -2,7 +2,7 @@ use Rattle.std.proofs.Common.{◌∙◌, Some, sym, ap, subst, arith, length}
 use Rattle.std.specs.Prelude.{IfSome}
 use Rattle.pg_base.specs.Sets.{has}
 use Rattle.eq_classes.specs.Clauses.{Set}
-use Rattle.cost_rules.specs.Costs.{IsEstimate}
+use Rattle.cost_rules.specs.work.Costs.{IsEstimate}
 use Rattle.path_cost.specs.Estimates.{set_rows}
 use Rattle.path_cost.proofs.RunLemmas.{least-no, least-yes, lesser-estimate}
 use Rattle.path_cost.proofs.runs.runs.Goals.{then-has, else-has}

@@ -1,7 +1,7 @@
 use Rattle.std.proofs.Common.{◌≡◌}
 use Rattle.std.specs.Prelude.{IfSome}
 use Rattle.pg_base.specs.Sets.{has}
-use Rattle.cost_rules.specs.Costs.{IsEstimate}
+use Rattle.cost_rules.specs.work.Costs.{IsEstimate}
 use Rattle.path_cost.specs.Runs.{runs}
 use Rattle.path_cost.proofs.RunLemmas.{alone-from, least_with}
 use Rattle.path_cost.proofs.runs.runs.Given as goal

@@ -1,6 +1,6 @@
 use Rattle.std.proofs.Common.{◌∙◌, ◌-◌, ◌^◌, min, sym, ap, arith}
 use Rattle.pg_expr.specs.Columns.{atom_count}
-use Rattle.path_cost.specs.Estimates.{either_but}
+use Rattle.path_cost.specs.work.Estimates.{either_but}
 use Rattle.path_cost.proofs.CostLemmas.{sum-yes, sum-no, sum-all}
 use Rattle.path_cost.proofs.scans.operators_of.Goals.{then-is_left, else-is_left}
 use Rattle.path_cost.proofs.scans.operators_of.Goals as goal

@@ -1,6 +1,7 @@
 use Rattle.std.proofs.Common.{◌≡◌, ◌≤◌, ◌+◌, ◌-◌, ◌^◌, min, drop}
 use Rattle.path_cost.specs.Costs.{operators}
-use Rattle.path_cost.specs.Estimates.{either_but, conditions_from}
+use Rattle.path_cost.specs.Estimates.{conditions_from}
+use Rattle.path_cost.specs.work.Estimates.{either_but}
 use Rattle.path_cost.proofs.scans.operators_of.Given as goal
 
 -- the operators that are left, with those so far, are those of all

@@ -1,5 +1,5 @@
 use Rattle.std.proofs.Common.{◌≤◌, ℕ, sym, subst}
-use Rattle.path_cost.specs.Known.{statistics_of}
+use Rattle.path_cost.specs.work.Known.{statistics_of}
 use Rattle.path_cost.specs.Selectivity.{met_of}
 use Rattle.path_cost.proofs.PlaceLemmas.{met-most}
 use Rattle.path_cost.proofs.shares.by_histogram.Goals as goal

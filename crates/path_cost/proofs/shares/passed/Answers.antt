@@ -2,7 +2,7 @@ use Rattle.std.proofs.Common.{◌≡◌, ◌<◌, ◌≤◌, ◌+◌, ◌-◌, �
 use Rattle.std.proofs.lemmas.Bool.Decides.{nat_tests}
 use Rattle.std.proofs.lemmas.Grind.{common_steps}
 use Rattle.catalog.specs.declared.limits.TheConstants.{MOST_BOUNDS}
-use Rattle.path_cost.specs.Known.{statistics_of}
+use Rattle.path_cost.specs.work.Known.{statistics_of}
 use Rattle.path_cost.specs.Selectivity.{bounds_passed}
 use Rattle.path_cost.proofs.KindLemmas.{bounds_compare}
 use Rattle.path_cost.proofs.PlaceLemmas.{few-passed, half-way}

@@ -1,5 +1,5 @@
 use Rattle.std.proofs.Common.{arith}
-use Rattle.path_cost.specs.Known.{statistics_of}
+use Rattle.path_cost.specs.work.Known.{statistics_of}
 use Rattle.path_cost.proofs.PlaceLemmas.{place-between}
 use Rattle.path_cost.proofs.shares.place.Goals as goal
 

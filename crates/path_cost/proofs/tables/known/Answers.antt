@@ -3,9 +3,9 @@ use Rattle.std.specs.Prelude.{Some}
 use Rattle.std.proofs.lemmas.Grind.{common_steps}
 use Rattle.pg_value.specs.declared.columns.Column.{Column}
 use Rattle.catalog.specs.Contents.{stats_at}
-use Rattle.catalog.specs.Entries.{statistics}
+use Rattle.catalog.specs.work.Entries.{statistics}
 use Rattle.catalog.specs.Range.{table_of}
-use Rattle.path_cost.specs.Relations.{range_of}
+use Rattle.path_cost.specs.work.Relations.{range_of}
 use Rattle.path_cost.proofs.ColumnLemmas.{column_laws, lent_lawful}
 use Rattle.path_cost.proofs.tables.known.Goals as goal
 

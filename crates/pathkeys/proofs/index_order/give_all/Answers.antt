@@ -1,6 +1,6 @@
 use Rattle.std.proofs.Common.{◌++◌, ap}
 use Rattle.pathkeys.specs.Keys.{Keys}
-use Rattle.pathkeys.specs.Finding.{class_numbers}
+use Rattle.pathkeys.specs.work.Finding.{class_numbers}
 use Rattle.pathkeys.proofs.StepLemmas.{keys_after_none}
 use Rattle.pathkeys.proofs.index_order.give_all.Goals as goal
 

@@ -1,6 +1,6 @@
 use Rattle.std.proofs.Common.{◌≡◌, ◌++◌, [], take, drop}
 use Rattle.pathkeys.specs.Keys.{keys_from}
-use Rattle.pathkeys.specs.Finding.{class_numbers, keys_after}
+use Rattle.pathkeys.specs.work.Finding.{class_numbers, keys_after}
 use Rattle.pathkeys.proofs.index_order.give_all.Given as goal
 
 abbrev pub invariant-loop-at : goal.invariant-loop-at

@@ -1,6 +1,6 @@
 use Rattle.std.proofs.Common.{◌≡◌, [], take, drop, slice_get}
 use Rattle.pathkeys.specs.Keys.{keys_from}
-use Rattle.pathkeys.specs.Finding.{keys_after}
+use Rattle.pathkeys.specs.work.Finding.{keys_after}
 use Rattle.pathkeys.proofs.index_order.given_at.Given as goal
 
 abbrev pub invariant-loop-at : goal.invariant-loop-at

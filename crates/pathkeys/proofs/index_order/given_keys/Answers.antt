@@ -2,7 +2,7 @@ use Rattle.std.proofs.Common.{◌++◌, List, [], ap, sym, ◌∙◌, subst}
 use Rattle.eq_classes.specs.declared.classes.ClassNo.{ClassNo}
 use Rattle.catalog.specs.opfamily_classes_Method_TheVariants.{Btree}
 use Rattle.pathkeys.specs.Keys.{AreDifferent, keys_from}
-use Rattle.pathkeys.specs.Finding.{class_numbers}
+use Rattle.pathkeys.specs.work.Finding.{class_numbers}
 use Rattle.pathkeys.proofs.StepLemmas.{keys_by_are_keys}
 use Rattle.pathkeys.proofs.index_order.given_keys.Goals as goal
 

@@ -1,7 +1,7 @@
 use Rattle.std.proofs.Common.{◌++◌, List, [], ap, sym, ◌∙◌, subst}
 use Rattle.eq_classes.specs.declared.classes.ClassNo.{ClassNo}
 use Rattle.pathkeys.specs.Keys.{AreDifferent}
-use Rattle.pathkeys.specs.Finding.{class_numbers, order_after}
+use Rattle.pathkeys.specs.work.Finding.{class_numbers, order_after}
 use Rattle.pathkeys.proofs.OnceLemmas.{order_after_are, order_keys_are_keys, all_found}
 use Rattle.pathkeys.proofs.query_order.order_keys.Goals as goal
 

@@ -1,7 +1,7 @@
 use Rattle.std.proofs.Common.{◌≡◌}
 use Rattle.pg_expr.specs.Cond.{joined}
 use Rattle.pg_expr.specs.Conjuncts.{conjuncts_of_all}
-use Rattle.pg_expr.specs.View.{conds}
+use Rattle.pg_expr.specs.work.View.{conds}
 use Rattle.pg_expr.proofs.and_list.+conjuncts.Given as goal
 
 -- the conjuncts so far, with those of what is left, are those of all

@@ -8,7 +8,7 @@ use Rattle.pg_expr.specs.Conjuncts.{conjuncts_of}
 use Rattle.pg_expr.specs.Pushed.{IsPushed, ArePushed}
 use Rattle.pg_expr.specs.Truths.{truth_at, truth_of_all}
 use Rattle.pg_expr.specs.Typed.{IsTyped, AreTyped}
-use Rattle.pg_expr.specs.View.{cond, conds}
+use Rattle.pg_expr.specs.work.View.{cond, conds}
 use Rattle.pg_expr.proofs.FormLaws.{conjuncts-form}
 use Rattle.pg_expr.proofs.KeptLaws.{conjuncts-typed, conjuncts-some, conjuncts-each, conjuncts-atoms, conjuncts-truth}
 use Rattle.pg_expr.proofs.and_list.conjuncts.Goals as goal

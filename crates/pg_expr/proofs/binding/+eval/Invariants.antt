@@ -3,7 +3,7 @@ use Rattle.pg_value.specs.Truths.{both, either}
 use Rattle.pg_expr.specs.Columns.{each_column_of}
 use Rattle.pg_expr.specs.Truths.{truth_of_all, truth_of_any}
 use Rattle.pg_expr.specs.Typed.{AreTyped}
-use Rattle.pg_expr.specs.View.{conds}
+use Rattle.pg_expr.specs.work.View.{conds}
 use Rattle.pg_expr.proofs.binding.+eval.Given as goal
 
 -- the truth so far, with that of what is left, is the truth of all

@@ -1,6 +1,6 @@
 use Rattle.std.proofs.Common.{◌≡◌, ◌≤◌, [], drop, length, drop_of_length-le, ap, arith}
 use Rattle.pg_expr.specs.Columns.{atom_count_of}
-use Rattle.pg_expr.specs.View.{conds}
+use Rattle.pg_expr.specs.work.View.{conds}
 use Rattle.pg_expr.proofs.counts.+ops.Goals as goal
 
 -- nothing is left

@@ -1,7 +1,7 @@
 use Rattle.std.proofs.Common.{◌≡◌, ℕ, ◌||◌, IsTrue, nat_eq, nat_lt, drop}
 use Rattle.pg_base.specs.Sets.{has}
 use Rattle.pg_expr.specs.Columns.{some_column_of, each_column_of}
-use Rattle.pg_expr.specs.View.{conds}
+use Rattle.pg_expr.specs.work.View.{conds}
 use Rattle.pg_expr.proofs.counts.+rels.Given as goal
 
 abbrev pub invariant-rels_of-loop-part : goal.invariant-rels_of-loop-part

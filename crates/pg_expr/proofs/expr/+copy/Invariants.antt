@@ -1,5 +1,5 @@
 use Rattle.std.proofs.Common.{◌≡◌, map, take}
-use Rattle.pg_expr.specs.View.{cond}
+use Rattle.pg_expr.specs.work.View.{cond}
 use Rattle.pg_expr.proofs.expr.+copy.Given as goal
 
 abbrev pub invariant-Exprs::copy-loop-part : goal.invariant-Exprs::copy-loop-part

@@ -2,7 +2,7 @@ use Rattle.std.proofs.Common.{◌≡◌, [], ap, sym, ◌∙◌, arith}
 use Rattle.std.proofs.lemmas.List.{nil_from_length}
 use Rattle.pg_expr.specs.Cond.{joined}
 use Rattle.pg_expr.specs.Pushed.{pushed_parts}
-use Rattle.pg_expr.specs.View.{conds}
+use Rattle.pg_expr.specs.work.View.{conds}
 use Rattle.pg_expr.proofs.CondLaws.{joined-nil}
 use Rattle.pg_expr.proofs.push.+push.Goals as goal
 

@@ -1,7 +1,7 @@
 use Rattle.std.proofs.Common.{◌≡◌}
 use Rattle.pg_expr.specs.Cond.{joined}
 use Rattle.pg_expr.specs.Pushed.{pushed_parts}
-use Rattle.pg_expr.specs.View.{conds}
+use Rattle.pg_expr.specs.work.View.{conds}
 use Rattle.pg_expr.proofs.push.+push.Given as goal
 
 -- the pushed parts so far, with those of what is left, are those of all

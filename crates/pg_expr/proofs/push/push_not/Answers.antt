@@ -4,8 +4,9 @@ use Rattle.pg_value.specs.declared.value.SqlType.{SqlType}
 use Rattle.pg_expr.specs.declared.operand.ColRef.{ColRef}
 use Rattle.pg_expr.specs.Columns.{some_column, each_column, atom_count}
 use Rattle.pg_expr.specs.Pushed.{pushed, IsPushed}
-use Rattle.pg_expr.specs.Typed.{IsTyped, HasTruthOf}
-use Rattle.pg_expr.specs.View.{cond}
+use Rattle.pg_expr.specs.Typed.{IsTyped}
+use Rattle.pg_expr.specs.work.Typed.{HasTruthOf}
+use Rattle.pg_expr.specs.work.View.{cond}
 use Rattle.pg_expr.proofs.DefinedLaws.{pushed-same_truth}
 use Rattle.pg_expr.proofs.FormLaws.{pushed-form}
 use Rattle.pg_expr.proofs.KeptLaws.{pushed-typed, pushed-some, pushed-each, pushed-atoms}

@@ -1,6 +1,6 @@
 use Rattle.std.proofs.Common.{◌≡◌, ap, sym, ◌∙◌, IsTrue, get_or, subst, ◌<◌}
 use Rattle.std.proofs.lemmas.List.{get_or_default}
-use Rattle.pg_expr.specs.View.{cond}
+use Rattle.pg_expr.specs.work.View.{cond}
 use Rattle.pg_expr.proofs.CondLaws.{conds-at, conds-length}
 use Rattle.pg_expr.proofs.same.+same.Goals as goal
 

@@ -1,4 +1,4 @@
-use Rattle.plan_check.specs.Views.{entry}
+use Rattle.plan_check.specs.work.Views.{entry}
 use Rattle.plan_check.proofs.PlaceLemmas.{read-at}
 use Rattle.plan_check.proofs.PlacedLemmas.{none-beats}
 use Rattle.plan_check.proofs.beaten.first_beater.Goals as goal

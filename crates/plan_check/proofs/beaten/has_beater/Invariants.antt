@@ -1,7 +1,7 @@
 use Rattle.std.proofs.Common.{◌<◌, ◌≤◌, ℕ, map}
-use Rattle.plan_check.specs.Views.{entry}
-use Rattle.plan_check.specs.Beating.{IsNoBeater}
-use Rattle.plan_check.specs.Placing.{place_at}
+use Rattle.plan_check.specs.work.Views.{entry}
+use Rattle.plan_check.specs.work.Beating.{IsNoBeater}
+use Rattle.plan_check.specs.work.Placing.{place_at}
 use Rattle.plan_check.proofs.beaten.has_beater.Given as goal
 
 abbrev pub invariant-loop-i : goal.invariant-loop-i

@@ -1,4 +1,4 @@
-use Rattle.plan_check.specs.Beating.{candidate}
+use Rattle.plan_check.specs.work.Beating.{candidate}
 use Rattle.plan_check.proofs.PlacedLemmas.{covering-none}
 use Rattle.plan_check.proofs.candidate.covering.Goals as goal
 

@@ -1,6 +1,6 @@
 use Rattle.std.proofs.Common.{◌<◌, ◌≤◌, ℕ}
-use Rattle.plan_check.specs.Beating.{IsUnbeatenAt}
-use Rattle.plan_check.specs.Placing.{place_at}
+use Rattle.plan_check.specs.work.Beating.{IsUnbeatenAt}
+use Rattle.plan_check.specs.work.Placing.{place_at}
 use Rattle.plan_check.proofs.candidate.covering_in.Given as goal
 
 abbrev pub invariant-loop-i : goal.invariant-loop-i

@@ -1,5 +1,5 @@
 use Rattle.std.proofs.Common.{◌≡◌, arith, subst}
-use Rattle.plan_check.specs.Ranking.{AreFirstPlaces}
+use Rattle.plan_check.specs.work.Ranking.{AreFirstPlaces}
 use Rattle.plan_check.proofs.RankLemmas.{no-places, place-more}
 use Rattle.plan_check.proofs.ranking.places.Goals as goal
 

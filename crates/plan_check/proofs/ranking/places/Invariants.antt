@@ -1,4 +1,4 @@
-use Rattle.plan_check.specs.Ranking.{AreFirstPlaces}
+use Rattle.plan_check.specs.work.Ranking.{AreFirstPlaces}
 use Rattle.plan_check.proofs.ranking.places.Given as goal
 
 -- the places before it are there

@@ -1,6 +1,6 @@
 use Rattle.plan_tree.specs.Plans.{set_of}
 use Rattle.plan_tree.specs.Run.{joined_tuples, run}
-use Rattle.plan_laws.specs.Meant.{meant, joined_with}
+use Rattle.plan_laws.specs.work.Meant.{meant, joined_with}
 use Rattle.plan_laws.proofs.GivingLemmas.{merge_tests, nest_rows, nest_tests, outer_holds}
 use Rattle.plan_laws.proofs.PermLemmas.{to_std}
 use Rattle.plan_laws.proofs.plans.joins_leave_out_what_holds.Goals as goal

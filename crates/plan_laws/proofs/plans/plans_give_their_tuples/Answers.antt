@@ -1,4 +1,4 @@
-use Rattle.plan_laws.specs.Meant.{meant, meant_scan}
+use Rattle.plan_laws.specs.work.Meant.{meant, meant_scan}
 use Rattle.plan_tree.specs.Plans.{empty, set_of}
 use Rattle.plan_tree.specs.Run.{run}
 use Rattle.pg_base.specs.Sets.{has}

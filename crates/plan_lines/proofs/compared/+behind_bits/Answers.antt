@@ -1,7 +1,7 @@
 use Rattle.std.proofs.Common.{◌∙◌, ap, sym}
 use Rattle.std.specs.Prelude.{option_map}
 use Rattle.plan_tree.specs.Plans.{all_hold}
-use Rattle.plan_tree.specs.Views.{bits, bits_all}
+use Rattle.plan_tree.specs.work.Views.{bits, bits_all}
 use Rattle.plan_tree.proofs.PricingLemmas.{and-bits}
 use Rattle.plan_lines.proofs.CompareLemmas.{and-if, and-only, leaf-only}
 use Rattle.plan_lines.proofs.TreeLemmas.{leaf-bits}

@@ -1,5 +1,5 @@
 use Rattle.std.proofs.Common.{◌≡◌, ◌++◌, ℕ, List, drop}
-use Rattle.plan_tree.specs.Views.{bits_all}
+use Rattle.plan_tree.specs.work.Views.{bits_all}
 use Rattle.certificate_entries.specs.explain_Texts.{trees_text}
 use Rattle.plan_lines.specs.HasText.{HaveBits}
 use Rattle.plan_lines.specs.Stands.{Stand}

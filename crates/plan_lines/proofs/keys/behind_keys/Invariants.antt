@@ -1,6 +1,6 @@
 use Rattle.std.proofs.Common.{◌≡◌, ◌++◌, ℕ, List, codes, cond, nat_eq, [], map, drop}
 use Rattle.pg_base.specs.Sets.{has}
-use Rattle.pathkeys.specs.Finding.{class_numbers}
+use Rattle.pathkeys.specs.work.Finding.{class_numbers}
 use Rattle.certificate_entries.specs.explain_Texts.{key_text, keys_text, with_commas}
 use Rattle.plan_lines.proofs.keys.behind_keys.Given as goal
 

@@ -1,5 +1,5 @@
 use Rattle.std.proofs.Common.{◌≡◌, ◌≤◌, ◌++◌, ◌∷◌, List, ℕ, length, true}
-use Rattle.plan_lines.specs.Parts.{lacks}
+use Rattle.plan_lines.specs.work.Parts.{lacks}
 use Rattle.plan_lines.proofs.lines.find.Given as goal
 
 abbrev pub invariant-loop-n : goal.invariant-loop-n

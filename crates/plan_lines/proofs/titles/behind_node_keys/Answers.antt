@@ -3,7 +3,7 @@ use Rattle.pg_base.specs.Sets.{has}
 use Rattle.eq_classes.specs.Clauses.{Set}
 use Rattle.certificate_entries.specs.explain_Texts.{keys_text}
 use Rattle.plan_tree.specs.Plans.{set_of}
-use Rattle.plan_tree.specs.Views.{plan}
+use Rattle.plan_tree.specs.work.Views.{plan}
 use Rattle.plan_lines.proofs.KeyLemmas.{reads-few}
 use Rattle.plan_lines.proofs.titles.behind_node_keys.Goals as goal
 

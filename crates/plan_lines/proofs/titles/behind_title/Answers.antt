@@ -1,5 +1,5 @@
 use Rattle.std.proofs.Common.{◌∙◌, ◌++◌, ℕ, List, ap}
-use Rattle.plan_tree.specs.Views.{plan}
+use Rattle.plan_tree.specs.work.Views.{plan}
 use Rattle.plan_lines.proofs.KeyLemmas.{title-is, whole-is}
 use Rattle.plan_lines.proofs.titles.behind_title.Goals as goal
 

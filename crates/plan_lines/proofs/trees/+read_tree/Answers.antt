@@ -2,9 +2,9 @@ use Rattle.std.proofs.Common.{◌+◌, ◌∙◌, ◌++◌, ℕ, List, ap, arith
 use Rattle.std.specs.Prelude.{Some, option_map}
 use Rattle.certificate_entries.specs.explain_Texts.{bits_text}
 use Rattle.plan_tree.specs.Plans.{BitTree, all_hold}
-use Rattle.plan_tree.specs.Views.{bits, trees_of}
+use Rattle.plan_tree.specs.work.Views.{bits, trees_of}
 use Rattle.plan_tree.proofs.PricingLemmas.{and-bits}
-use Rattle.plan_lines.specs.Parts.{IsShallow}
+use Rattle.plan_lines.specs.work.Parts.{IsShallow}
 use Rattle.plan_lines.specs.HasText.{HasBits}
 use Rattle.plan_lines.specs.Stands.{Stands}
 use Rattle.plan_lines.proofs.ListLemmas.{broken, done}

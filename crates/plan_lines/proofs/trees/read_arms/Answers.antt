@@ -4,7 +4,7 @@ use Rattle.certificate_entries.specs.explain_Texts.{leaf_line}
 use Rattle.plan_tree.specs.Plans.{BitTree, some_arm}
 use Rattle.plan_tree.proofs.PricingLemmas.{or-bits}
 use Rattle.pg_base.specs.declared.numbers.IndexNo.{IndexNo}
-use Rattle.plan_lines.specs.Parts.{IsShallow}
+use Rattle.plan_lines.specs.work.Parts.{IsShallow}
 use Rattle.plan_lines.specs.HasText.{HasBits}
 use Rattle.plan_lines.specs.Stands.{Stands}
 use Rattle.plan_lines.proofs.ListLemmas.{broken, done}

@@ -1,10 +1,10 @@
 use Rattle.std.proofs.Common.{◌+◌, ◌∙◌, ℕ, List, [], ap, ap₂, sym}
 use Rattle.std.specs.Prelude.{option_map}
 use Rattle.plan_space.specs.Numbered.{CostAndRows, nodes}
-use Rattle.plan_reader.specs.Beneath.{IsBehind}
+use Rattle.plan_reader.specs.work.Beneath.{IsBehind}
 use Rattle.plan_reader.specs.Written.{written_beneath}
 use Rattle.plan_tree.specs.Plans.{merge, nest, sort}
-use Rattle.plan_tree.specs.Views.{bits, plan}
+use Rattle.plan_tree.specs.work.Views.{bits, plan}
 use Rattle.plan_reader.proofs.BehindLemmas.{behind-begins, bits-behind, bits-none, bits-same, if-some, join-none, join-same, leaf-behind, leaf-same, line-none, merge-behind, merge-join, nest-behind, nest-join, sort-behind, sort-same}
 use Rattle.plan_reader.proofs.compared.+behind_plan.Goals as goal
 

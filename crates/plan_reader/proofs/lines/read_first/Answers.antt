@@ -1,9 +1,9 @@
 use Rattle.std.proofs.Common.{◌∙◌, ◌++◌, ◌∷◌, ap, sym}
 use Rattle.std.proofs.lemmas.Option.{same_Some}
 use Rattle.std.specs.Prelude.{option_map}
-use Rattle.plan_lines.specs.Parts.{figures_behind}
+use Rattle.plan_lines.specs.work.Parts.{figures_behind}
 use Rattle.plan_lines.proofs.ScannedLemmas.{none-mapped}
-use Rattle.plan_lines.specs.TitleKinds.{behind_words, kind_of}
+use Rattle.plan_lines.specs.work.TitleKinds.{behind_words, kind_of}
 use Rattle.plan_reader.proofs.PlainLemmas.{line-lacks, line-parts, spaced, spaced-lacks}
 use Rattle.plan_reader.proofs.lines.read_first.Goals as goal
 

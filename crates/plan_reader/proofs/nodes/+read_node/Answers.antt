@@ -2,7 +2,7 @@ use Rattle.std.proofs.Common.{ap}
 use Rattle.std.specs.Prelude.{None, option_map}
 use Rattle.std.proofs.lemmas.Result.{IfOk-weaker}
 use Rattle.plan_tree.specs.Plans.{Plan}
-use Rattle.plan_tree.specs.Views.{plan}
+use Rattle.plan_tree.specs.work.Views.{plan}
 use Rattle.plan_lines.specs.HasText.{IsText}
 use Rattle.plan_reader.specs.Written.{StandsAt}
 use Rattle.plan_reader.proofs.NodeLemmas.{bitmap-beneath, both-if, index-beneath, index-only-beneath, merge-beneath, merge-none, nest-beneath, nest-none, no-first, no-inner, no-outer, node-read, pair-read, seq-beneath, sort-beneath, sort-none}

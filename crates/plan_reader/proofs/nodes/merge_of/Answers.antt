@@ -4,7 +4,7 @@ use Rattle.pathkeys.specs.Keys.{Keys}
 use Rattle.pg_base.specs.Sets.{has}
 use Rattle.eq_classes.specs.Parts.{union}
 use Rattle.plan_tree.specs.Plans.{Plan, merge, set_of}
-use Rattle.plan_tree.specs.Views.{plan}
+use Rattle.plan_tree.specs.work.Views.{plan}
 use Rattle.plan_lines.proofs.KeyLemmas.{reads-few}
 use Rattle.plan_reader.proofs.NodeLemmas.{keys-read, keys-same, no-keys}
 use Rattle.plan_reader.proofs.nodes.merge_of.Goals as goal

@@ -3,7 +3,7 @@ use Rattle.std.specs.Prelude.{Some}
 use Rattle.pathkeys.specs.Keys.{Keys}
 use Rattle.pg_base.specs.Sets.{has}
 use Rattle.plan_tree.specs.Plans.{set_of, sort}
-use Rattle.plan_tree.specs.Views.{plan}
+use Rattle.plan_tree.specs.work.Views.{plan}
 use Rattle.plan_tree.specs.declared.plan.Plan.{Plan as Planned}
 use Rattle.plan_lines.proofs.KeyLemmas.{reads-few}
 use Rattle.plan_reader.proofs.NodeLemmas.{keys-read, keys-same, no-keys}

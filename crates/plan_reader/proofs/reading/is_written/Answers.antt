@@ -2,7 +2,7 @@ use Rattle.std.proofs.Common.{◌∙◌, [], ℕ, List, sym, true≢false}
 use Rattle.std.proofs.lemmas.List.{append-nil}
 use Rattle.plan_space.specs.Numbered.{CostAndRows}
 use Rattle.plan_lines.proofs.ScannedLemmas.{none-mapped}
-use Rattle.plan_tree.specs.Views.{plan}
+use Rattle.plan_tree.specs.work.Views.{plan}
 use Rattle.plan_reader.specs.Written.{written_text}
 use Rattle.plan_reader.proofs.reading.is_written.Goals as goal
 

@@ -1,6 +1,6 @@
 use Rattle.std.proofs.Common.{ap}
 use Rattle.std.specs.Prelude.{option_map}
-use Rattle.plan_tree.specs.Views.{plan}
+use Rattle.plan_tree.specs.work.Views.{plan}
 use Rattle.plan_reader.proofs.ReadLemmas.{none-other, none-read, one-read, only-one}
 use Rattle.plan_reader.proofs.reading.read_plan.Goals as goal
 

@@ -1,6 +1,6 @@
 use Rattle.std.proofs.Common.{◌≡◌, ◌≤◌, ◌+◌, min, drop}
 use Rattle.plan_space.specs.Numbered.{all_bit_lines}
-use Rattle.plan_tree.specs.Views.{bits_all}
+use Rattle.plan_tree.specs.work.Views.{bits_all}
 use Rattle.plan_reader.proofs.sizes.+bits.Given as goal
 
 abbrev pub invariant-count_all-loop-tree : goal.invariant-count_all-loop-tree

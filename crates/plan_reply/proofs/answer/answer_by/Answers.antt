@@ -1,5 +1,5 @@
-use Rattle.plan_tree.specs.Views.{plan}
-use Rattle.reply.specs.Settings.{world_of}
+use Rattle.plan_tree.specs.work.Views.{plan}
+use Rattle.reply.specs.work.Settings.{world_of}
 use Rattle.reply.proofs.PuttingLemmas.{prefix-none}
 use Rattle.pg_base.proofs.OptionLemmas.{on-err as on_err}
 use Rattle.plan_reply.proofs.ReplyLemmas.{begun-none, begun-on, replied-on}

@@ -1,6 +1,6 @@
 use Rattle.std.proofs.Common.{subst}
-use Rattle.reply.specs.Settings.{world_of}
-use Rattle.plan_reply.specs.Told.{IsTold}
+use Rattle.reply.specs.work.Settings.{world_of}
+use Rattle.plan_reply.specs.work.Told.{IsTold}
 use Rattle.plan_reply.proofs.ReplyLemmas.{line-begun, line-replied}
 use Rattle.plan_reply.proofs.answer.answer_told.Goals as goal
 

@@ -1,5 +1,5 @@
 use Rattle.sql_query.specs.Queries.{width}
-use Rattle.plan_tree.specs.Views.{plan}
+use Rattle.plan_tree.specs.work.Views.{plan}
 use Rattle.plan_tree.proofs.EstimateLemmas.{below-more}
 use Rattle.plan_space.proofs.JoinLemmas.{all-read}
 use Rattle.plan_space.proofs.finished.reads_all.Goals as goal

@@ -1,4 +1,4 @@
-use Rattle.plan_tree.specs.Views.{plan}
+use Rattle.plan_tree.specs.work.Views.{plan}
 use Rattle.plan_tree.proofs.PathLemmas.{built-below}
 use Rattle.plan_space.proofs.finished.validate.Goals as goal
 

@@ -1,6 +1,6 @@
 use Rattle.std.proofs.Common.{◌∙◌, ap, sym}
 use Rattle.plan_tree.specs.Plans.{param_of}
-use Rattle.plan_tree.specs.Views.{plan}
+use Rattle.plan_tree.specs.work.Views.{plan}
 use Rattle.plan_space.proofs.JoinLemmas.{scan-param}
 use Rattle.plan_space.proofs.joins.+param_of.Goals as goal
 

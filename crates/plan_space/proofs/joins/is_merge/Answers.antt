@@ -1,7 +1,7 @@
 use Rattle.std.proofs.Common.{◌∙◌, arith, sym, true≢false}
 use Rattle.sql_query.specs.Queries.{width}
 use Rattle.plan_tree.specs.Plans.{set_of}
-use Rattle.plan_tree.specs.Views.{plan}
+use Rattle.plan_tree.specs.work.Views.{plan}
 use Rattle.plan_tree.proofs.EstimateLemmas.{below-more}
 use Rattle.plan_tree.proofs.PricingLemmas.{costable-reads}
 use Rattle.plan_space.proofs.JoinLemmas.{merge-of}

@@ -1,5 +1,5 @@
 use Rattle.std.proofs.Common.{◌∙◌, refl}
-use Rattle.plan_tree.specs.Views.{plan}
+use Rattle.plan_tree.specs.work.Views.{plan}
 use Rattle.plan_space.proofs.JudgeLemmas.{all-same, one-more, wrong-at}
 use Rattle.plan_space.proofs.judged.first_wrong.Goals as goal
 

@@ -1,5 +1,5 @@
 use Rattle.std.proofs.Common.{◌≡◌, take}
-use Rattle.plan_tree.specs.Views.{plan}
+use Rattle.plan_tree.specs.work.Views.{plan}
 use Rattle.plan_space.specs.Numbered.{own_numbers}
 use Rattle.plan_space.proofs.judged.first_wrong.Given as goal
 

@@ -1,5 +1,5 @@
 use Rattle.plan_tree.specs.Costs.{cost}
-use Rattle.plan_tree.specs.Views.{plan}
+use Rattle.plan_tree.specs.work.Views.{plan}
 use Rattle.plan_tree.proofs.BoundLemmas.{lawful-rows}
 use Rattle.plan_tree.proofs.CostableLemmas.{built-costable}
 use Rattle.plan_space.proofs.JudgeLemmas.{at-limit, below-limit, names-judged}

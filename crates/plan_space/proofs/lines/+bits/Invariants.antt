@@ -1,5 +1,5 @@
 use Rattle.std.proofs.Common.{◌≡◌, ◌+◌, drop}
-use Rattle.plan_tree.specs.Views.{bits_all}
+use Rattle.plan_tree.specs.work.Views.{bits_all}
 use Rattle.plan_space.specs.Numbered.{all_bit_lines}
 use Rattle.plan_space.proofs.lines.+bits.Given as goal
 

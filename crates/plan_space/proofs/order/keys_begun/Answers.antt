@@ -1,8 +1,8 @@
 use Rattle.std.proofs.Common.{◌+◌, ◌∙◌, List, ap, drop, subst}
 use Rattle.std.proofs.lemmas.List.{drop_more, drop_all}
 use Rattle.eq_classes.specs.declared.order.OrderItem.{OrderItem}
-use Rattle.pathkeys.specs.Finding.{class_numbers}
-use Rattle.plan_space.specs.OrderKeys.{GoesOnAs, classes_asked, goes_on}
+use Rattle.pathkeys.specs.work.Finding.{class_numbers}
+use Rattle.plan_space.specs.work.OrderKeys.{GoesOnAs, classes_asked, goes_on}
 use Rattle.plan_space.proofs.OrderLemmas.{begun-all, begun-no, if-none}
 use Rattle.plan_space.proofs.order.keys_begun.Goals as goal
 

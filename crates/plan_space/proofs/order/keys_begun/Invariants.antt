@@ -1,6 +1,6 @@
 use Rattle.std.proofs.Common.{◌≤◌, drop, length}
-use Rattle.pathkeys.specs.Finding.{class_numbers}
-use Rattle.plan_space.specs.OrderKeys.{GoesOnAs, classes_asked}
+use Rattle.pathkeys.specs.work.Finding.{class_numbers}
+use Rattle.plan_space.specs.work.OrderKeys.{GoesOnAs, classes_asked}
 use Rattle.plan_space.proofs.order.keys_begun.Given as goal
 
 -- the list begins with all classes where it goes on with those of the items left

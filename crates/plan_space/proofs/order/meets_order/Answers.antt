@@ -1,4 +1,4 @@
-use Rattle.plan_tree.specs.Views.{plan}
+use Rattle.plan_tree.specs.work.Views.{plan}
 use Rattle.plan_tree.proofs.CostableLemmas.{built-costable}
 use Rattle.plan_space.proofs.SortLemmas.{few-plain}
 use Rattle.plan_space.proofs.order.meets_order.Goals as goal

@@ -1,5 +1,5 @@
 use Rattle.std.proofs.Common.{◌∙◌, sym, true, false}
-use Rattle.pathkeys.specs.Finding.{class_numbers}
+use Rattle.pathkeys.specs.work.Finding.{class_numbers}
 use Rattle.plan_space.proofs.OrderLemmas.{differs-on, ends-numbers, passes-on, stands-on, taken-found, within-numbers}
 use Rattle.plan_tree.proofs.PlaceLemmas.{number-at as number-within}
 use Rattle.plan_space.proofs.order.next_place.Goals as goal

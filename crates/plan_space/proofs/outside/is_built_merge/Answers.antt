@@ -1,5 +1,5 @@
 use Rattle.std.proofs.Common.{refl}
-use Rattle.plan_tree.specs.Views.{plan}
+use Rattle.plan_tree.specs.work.Views.{plan}
 use Rattle.plan_space.proofs.JoinLemmas.{costable-built}
 use Rattle.plan_space.proofs.OutsideLemmas.{merge-both, merge-no-inner, merge-no-outer}
 use Rattle.plan_space.proofs.outside.is_built_merge.Goals as goal

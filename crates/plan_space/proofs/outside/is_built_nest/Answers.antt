@@ -1,5 +1,5 @@
 use Rattle.std.proofs.Common.{refl}
-use Rattle.plan_tree.specs.Views.{plan}
+use Rattle.plan_tree.specs.work.Views.{plan}
 use Rattle.plan_space.proofs.JoinLemmas.{below-built}
 use Rattle.plan_space.proofs.OutsideLemmas.{nest-both, nest-no-inner, nest-no-outer}
 use Rattle.plan_space.proofs.outside.is_built_nest.Goals as goal

@@ -1,6 +1,6 @@
 use Rattle.std.proofs.Common.{◌∙◌, ap, sym}
 use Rattle.plan_tree.specs.Plans.{merge, nest, sort}
-use Rattle.plan_tree.specs.Views.{plan}
+use Rattle.plan_tree.specs.work.Views.{plan}
 use Rattle.plan_tree.specs.declared.plan.Plan.{Plan as Planned}
 use Rattle.plan_space.specs.Numbered.{line_count, nodes}
 use Rattle.plan_space.proofs.PartLemmas.{inner-of-merge, inner-of-nest, of-sort, outer-of-merge, outer-of-nest}

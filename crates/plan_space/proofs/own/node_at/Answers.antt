@@ -1,5 +1,5 @@
 use Rattle.std.proofs.Common.{◌≡◌, ◌∙◌, ℕ, ap, get_or, sym}
-use Rattle.plan_tree.specs.Views.{plan}
+use Rattle.plan_tree.specs.work.Views.{plan}
 use Rattle.plan_space.specs.Numbered.{lines_from, own_numbers}
 use Rattle.plan_space.proofs.PartLemmas.{first-line, first-own, further, whole}
 use Rattle.plan_space.proofs.own.node_at.Goals as goal

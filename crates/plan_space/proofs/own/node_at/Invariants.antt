@@ -1,5 +1,5 @@
-use Rattle.plan_tree.specs.Views.{plan}
-use Rattle.plan_space.specs.Parts.{IsPart}
+use Rattle.plan_tree.specs.work.Views.{plan}
+use Rattle.plan_space.specs.work.Parts.{IsPart}
 use Rattle.plan_space.proofs.own.node_at.Given as goal
 
 abbrev pub invariant-parts : goal.invariant-parts

@@ -1,4 +1,4 @@
-use Rattle.plan_tree.specs.Views.{plan}
+use Rattle.plan_tree.specs.work.Views.{plan}
 use Rattle.plan_tree.proofs.PricingLemmas.{costable-reads}
 use Rattle.plan_space.proofs.own.pair_of.Goals as goal
 

@@ -1,6 +1,6 @@
 use Rattle.std.proofs.Common.{◌∙◌, sym, true≢false}
 use Rattle.pathkeys.proofs.CoveringLemmas.{covers-antisym}
-use Rattle.plan_tree.specs.Views.{plan}
+use Rattle.plan_tree.specs.work.Views.{plan}
 use Rattle.plan_space.proofs.OrderLemmas.{covers-same}
 use Rattle.plan_space.proofs.SortLemmas.{sort-has}
 use Rattle.plan_space.proofs.sorts.has_keys.Goals as goal

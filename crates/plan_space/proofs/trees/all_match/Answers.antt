@@ -1,6 +1,6 @@
 use Rattle.std.proofs.Common.{◌∙◌, sym, subst, true≢false, get_or}
 use Rattle.pg_expr.specs.declared.expr.Expr.{Expr}
-use Rattle.pg_expr.specs.View.{cond}
+use Rattle.pg_expr.specs.work.View.{cond}
 use Rattle.plan_tree.specs.Bitmaps.{MatchesArm}
 use Rattle.plan_tree.proofs.PricingLemmas.{zip-at}
 use Rattle.plan_space.proofs.trees.all_match.Goals as goal

@@ -1,8 +1,8 @@
 use Rattle.std.proofs.Common.{◌+◌, map, drop, length}
 use Rattle.std.proofs.lemmas.Bool.{eq-eqb}
 use Rattle.plan_tree.specs.Bitmaps.{elements_of}
-use Rattle.plan_space.specs.Ordered.{AreInOrder}
-use Rattle.plan_tree.specs.Views.{bits, bits_all, element}
+use Rattle.plan_space.specs.work.Ordered.{AreInOrder}
+use Rattle.plan_tree.specs.work.Views.{bits, bits_all, element}
 use Rattle.plan_tree.proofs.ElementLemmas.{same-number}
 use Rattle.plan_space.proofs.TreeLemmas.{order-more, order-end}
 use Rattle.plan_space.proofs.trees.are_in_order.Goals as goal

@@ -3,8 +3,8 @@ use Rattle.catalog.specs.Contents.{Contents}
 use Rattle.eq_classes.specs.Clauses.{Set}
 use Rattle.sql_query.specs.Queries.{Query}
 use Rattle.plan_tree.specs.Bitmaps.{elements_of}
-use Rattle.plan_space.specs.Ordered.{AreInOrder}
-use Rattle.plan_tree.specs.Views.{bits_all, element}
+use Rattle.plan_space.specs.work.Ordered.{AreInOrder}
+use Rattle.plan_tree.specs.work.Views.{bits_all, element}
 use Rattle.plan_space.proofs.trees.are_in_order.Given as goal
 
 -- the trees are in order where those from the place on are so among the elements left

@@ -1,6 +1,6 @@
 use Rattle.std.proofs.Common.{◌≡◌, ◌≤◌, ◌∙◌, length, sym, arith, true≢false}
 use Rattle.plan_tree.specs.Bitmaps.{elements_of}
-use Rattle.plan_tree.specs.Views.{bits, bits_all}
+use Rattle.plan_tree.specs.work.Views.{bits, bits_all}
 use Rattle.plan_space.proofs.TreeLemmas.{elements-long}
 use Rattle.plan_space.proofs.trees.are_over.Goals as goal
 

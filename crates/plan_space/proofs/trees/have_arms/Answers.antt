@@ -2,7 +2,7 @@ use Rattle.std.proofs.Common.{◌∙◌, sym, subst, true≢false}
 use Rattle.std.proofs.Common.{refl}
 use Rattle.plan_tree.specs.Bitmaps.{HasArms}
 use Rattle.plan_tree.specs.declared.bits.BitTree.{BitTree as Tree}
-use Rattle.plan_tree.specs.Views.{bits}
+use Rattle.plan_tree.specs.work.Views.{bits}
 use Rattle.plan_space.proofs.TreeLemmas.{have-at, have-more, have-all}
 use Rattle.plan_space.proofs.trees.have_arms.Goals as goal
 

@@ -1,7 +1,7 @@
 use Rattle.std.proofs.Common.{drop}
 use Rattle.eq_classes.specs.Clauses.{Set}
 use Rattle.plan_tree.specs.Bitmaps.{HaveArms}
-use Rattle.plan_tree.specs.Views.{bits_all}
+use Rattle.plan_tree.specs.work.Views.{bits_all}
 use Rattle.plan_space.proofs.trees.have_arms.Given as goal
 
 -- where the trees left are such, all are

@@ -1,5 +1,5 @@
 use Rattle.std.proofs.Common.{◌∙◌, sym, true≢false}
-use Rattle.plan_tree.specs.Views.{element}
+use Rattle.plan_tree.specs.work.Views.{element}
 use Rattle.plan_space.proofs.TreeLemmas.{one-less}
 use Rattle.plan_space.proofs.trees.is_among.Goals as goal
 

@@ -1,6 +1,6 @@
 use Rattle.std.proofs.Common.{◌∙◌, map}
 use Rattle.pg_base.specs.Sets.{has}
-use Rattle.plan_tree.specs.Views.{bits, element}
+use Rattle.plan_tree.specs.work.Views.{bits, element}
 use Rattle.plan_space.proofs.TreeLemmas.{over-found}
 use Rattle.plan_space.proofs.trees.is_bit_tree.Goals as goal
 

@@ -1,8 +1,8 @@
 use Rattle.std.proofs.Common.{◌∙◌, ◌&&◌, ◌||◌, ap, sym, length, nat_lt}
 use Rattle.pg_base.specs.Sets.{has}
-use Rattle.pg_expr.specs.AtomSets.{contains}
+use Rattle.pg_expr.specs.work.AtomSets.{contains}
 use Rattle.plan_tree.specs.Bitmaps.{uses}
-use Rattle.plan_tree.specs.Views.{bits}
+use Rattle.plan_tree.specs.work.Views.{bits}
 use Rattle.plan_tree.proofs.CostableLemmas.{tree-made}
 use Rattle.plan_space.proofs.TreeLemmas.{used-named}
 use Rattle.plan_space.proofs.trees.is_named_by_tree.Goals as goal

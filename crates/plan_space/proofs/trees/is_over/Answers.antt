@@ -2,7 +2,7 @@ use Rattle.std.proofs.Common.{◌≡◌, ◌∙◌, List, ap, map, subst, sym}
 use Rattle.plan_tree.specs.Bitmaps.{IsTreeOver}
 use Rattle.plan_tree.specs.Plans.{all_hold}
 use Rattle.plan_tree.specs.declared.bits.BitTree.{BitTree as Tree}
-use Rattle.plan_tree.specs.Views.{bits, bits_all, element}
+use Rattle.plan_tree.specs.work.Views.{bits, bits_all, element}
 use Rattle.plan_tree.proofs.PricingLemmas.{and-bits}
 use Rattle.plan_space.proofs.trees.is_over.Goals as goal
 

@@ -1,7 +1,7 @@
 use Rattle.std.proofs.Common.{◌∙◌, ap, sym}
 use Rattle.plan_tree.specs.Bitmaps.{element_of}
 use Rattle.plan_tree.specs.declared.bits.BitTree.{BitTree as Tree}
-use Rattle.plan_tree.specs.Views.{bits, element}
+use Rattle.plan_tree.specs.work.Views.{bits, element}
 use Rattle.plan_space.proofs.TreeLemmas.{next-taken, next-passed, next-past}
 use Rattle.plan_space.proofs.trees.next.Goals as goal
 use Rattle.plan_space.proofs.trees.next.Goals.{else-at-trees-via-then-at-trees+else-is_element, else-at-trees-via-else-at-trees}

@@ -1,5 +1,5 @@
 use Rattle.std.proofs.Common.{◌≡◌, map, take}
-use Rattle.plan_tree.specs.Views.{bits}
+use Rattle.plan_tree.specs.work.Views.{bits}
 use Rattle.plan_tree.proofs.bits.+copy_bits.Given as goal
 
 abbrev pub invariant-BitTrees::copy-loop-part : goal.invariant-BitTrees::copy-loop-part

@@ -2,8 +2,8 @@ use Rattle.std.proofs.Common.{ap, sym, subst, map}
 use Rattle.pg_base.specs.Sets.{has}
 use Rattle.index_match.specs.Numbered.{Numbered, local}
 use Rattle.plan_tree.specs.Bitmaps.{IsElement, by_clause, candidates}
-use Rattle.plan_tree.specs.Gathering.{Gathered}
-use Rattle.plan_tree.specs.Views.{element}
+use Rattle.plan_tree.specs.work.Gathering.{Gathered}
+use Rattle.plan_tree.specs.work.Views.{element}
 use Rattle.plan_tree.proofs.GatherLemmas.{gather-none, gathered-all}
 use Rattle.plan_tree.proofs.elements.elements_among.Goals as goal
 

@@ -1,6 +1,6 @@
 use Rattle.std.proofs.Common.{◌∙◌, ap, sym, subst, true≢false}
 use Rattle.sql_query.specs.catalog_Contents.{indexes_of}
-use Rattle.pg_expr.specs.View.{cond}
+use Rattle.pg_expr.specs.work.View.{cond}
 use Rattle.plan_tree.specs.Bitmaps.{MatchesArm}
 use Rattle.plan_tree.proofs.ElementLemmas.{AreLeft, all-left, fewer-left, none-left-has}
 use Rattle.plan_tree.proofs.elements.has_match.Goals as goal

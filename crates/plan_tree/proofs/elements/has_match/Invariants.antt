@@ -1,5 +1,5 @@
 use Rattle.std.proofs.Common.{drop}
-use Rattle.pg_expr.specs.View.{cond}
+use Rattle.pg_expr.specs.work.View.{cond}
 use Rattle.plan_tree.specs.Bitmaps.{MatchesArm}
 use Rattle.plan_tree.proofs.ElementLemmas.{AreLeft}
 use Rattle.plan_tree.proofs.elements.has_match.Given as goal

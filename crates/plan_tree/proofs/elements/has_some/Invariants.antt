@@ -1,5 +1,5 @@
 use Rattle.std.proofs.Common.{◌≡◌, ◌<◌, ℕ, false}
-use Rattle.pg_expr.specs.AtomSets.{contains}
+use Rattle.pg_expr.specs.work.AtomSets.{contains}
 use Rattle.plan_tree.proofs.elements.has_some.Given as goal
 
 abbrev pub invariant-loop-n : goal.invariant-loop-n

@@ -2,11 +2,11 @@ use Rattle.std.proofs.Common.{◌≡◌, ◌≤◌, ◌∙◌, List, ap, sym, Bo
 use Rattle.pg_base.specs.declared.limits.TheConstants.{MOST_ATOMS}
 use Rattle.pg_expr.specs.Cond.{Cond}
 use Rattle.pg_expr.specs.Columns.{atom_count}
-use Rattle.pg_expr.specs.View as view
+use Rattle.pg_expr.specs.work.View as view
 use Rattle.pg_expr.specs.declared.expr.Expr.{Expr}
 use Rattle.eq_classes.specs.Clauses.{ClassTable}
 use Rattle.eq_classes.specs.Listing.{clause_at}
-use Rattle.path_cost.specs.Columns.{IsOver}
+use Rattle.path_cost.specs.work.Columns.{IsOver}
 use Rattle.plan_tree.specs.Bitmaps.{condition_at}
 use Rattle.plan_tree.proofs.ElementLemmas.{arms-are, arms-over-of, arms-few-of, clause-holds, condition-here}
 use Rattle.plan_tree.proofs.elements.or_arms.Goals as goal

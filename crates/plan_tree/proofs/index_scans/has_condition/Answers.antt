@@ -1,6 +1,6 @@
 use Rattle.std.proofs.Common.{◌<◌, ◌↔◌, ℕ, IsTrue, length, subst}
 use Rattle.pg_base.specs.Sets.{has}
-use Rattle.pg_expr.specs.AtomSets.{contains}
+use Rattle.pg_expr.specs.work.AtomSets.{contains}
 use Rattle.eq_classes.specs.Clauses.{ClassTable}
 use Rattle.plan_tree.proofs.ConditionLemmas.{some-condition}
 use Rattle.plan_tree.proofs.index_scans.has_condition.Goals as goal

@@ -1,6 +1,6 @@
 use Rattle.std.proofs.Common.{◌∙◌, List, ap, sym, subst}
 use Rattle.pg_base.specs.Sets.{has}
-use Rattle.pg_expr.specs.AtomSets.{contains}
+use Rattle.pg_expr.specs.work.AtomSets.{contains}
 use Rattle.pg_expr.specs.Cond.{Cond}
 use Rattle.eq_classes.specs.Clauses.{ClassTable}
 use Rattle.index_match.specs.Usable.{IsUsable}

@@ -3,7 +3,7 @@ use Rattle.eq_classes.specs.Clauses.{ClassTable}
 use Rattle.path_cost.specs.Costs.{operators}
 use Rattle.path_cost.specs.Estimates.{conditions_where}
 use Rattle.plan_tree.specs.Plans.{set_of, joins}
-use Rattle.plan_tree.specs.Views.{plan}
+use Rattle.plan_tree.specs.work.Views.{plan}
 use Rattle.plan_tree.proofs.JoinLemmas.{join_operators_are}
 use Rattle.plan_tree.proofs.joins.join_operators.Goals as goal
 

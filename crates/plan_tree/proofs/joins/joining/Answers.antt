@@ -1,4 +1,4 @@
-use Rattle.plan_tree.specs.Views.{plan}
+use Rattle.plan_tree.specs.work.Views.{plan}
 use Rattle.plan_tree.proofs.JoinLemmas.{joining-given, joining-whole}
 use Rattle.plan_tree.proofs.joins.joining.Goals as goal
 

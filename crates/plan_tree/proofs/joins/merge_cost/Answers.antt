@@ -1,9 +1,9 @@
 use Rattle.std.proofs.Common.{◌∙◌, length, refl}
 use Rattle.path_cost.specs.Estimates.{pairs}
-use Rattle.pathkeys.specs.Finding.{class_numbers}
+use Rattle.pathkeys.specs.work.Finding.{class_numbers}
 use Rattle.plan_tree.specs.Costs.{estimate, merge_operators}
 use Rattle.plan_tree.specs.Plans.{set_of}
-use Rattle.plan_tree.specs.Views.{plan}
+use Rattle.plan_tree.specs.work.Views.{plan}
 use Rattle.plan_tree.proofs.EstimateLemmas.{below-more}
 use Rattle.plan_tree.proofs.JoinLemmas.{merge_costs}
 use Rattle.sql_query.specs.Queries.{width}

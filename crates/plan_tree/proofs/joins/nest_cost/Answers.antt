@@ -1,5 +1,5 @@
 use Rattle.plan_tree.specs.Costs.{estimate, join_operators}
-use Rattle.plan_tree.specs.Views.{plan}
+use Rattle.plan_tree.specs.work.Views.{plan}
 use Rattle.plan_tree.proofs.EstimateLemmas.{below-more}
 use Rattle.plan_tree.proofs.JoinLemmas.{nest_costs}
 use Rattle.sql_query.specs.Queries.{width}

@@ -1,6 +1,6 @@
 use Rattle.std.proofs.Common.{◌<◌, ◌||◌, ◌∙◌, sym, ap, arith, length}
 use Rattle.pg_base.specs.Sets.{has}
-use Rattle.pg_expr.specs.AtomSets.{contains}
+use Rattle.pg_expr.specs.work.AtomSets.{contains}
 use Rattle.pg_base.specs.declared.rel_set.RelSet.{RelSet}
 use Rattle.eq_classes.specs.Clauses.{ClassTable}
 use Rattle.plan_tree.proofs.NamedLemmas.{named-yes, named-no, named-all}

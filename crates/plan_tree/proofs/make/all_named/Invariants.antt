@@ -1,7 +1,7 @@
 use Rattle.std.proofs.Common.{◌≡◌, ◌||◌, ℕ, drop}
 use Rattle.std.specs.List.{list_any}
 use Rattle.pg_base.specs.Sets.{has}
-use Rattle.pg_expr.specs.AtomSets.{contains}
+use Rattle.pg_expr.specs.work.AtomSets.{contains}
 use Rattle.pg_expr.specs.Columns.{names_rel}
 use Rattle.path_cost.specs.Estimates.{conditions_from}
 use Rattle.plan_tree.proofs.make.all_named.Given as goal

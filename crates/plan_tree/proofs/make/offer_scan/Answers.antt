@@ -1,7 +1,7 @@
 use Rattle.std.proofs.lemmas.Result.{on_ok_weaker}
 use Rattle.pg_base.specs.Sets.{has}
 use Rattle.eq_classes.specs.Clauses.{one}
-use Rattle.plan_tree.specs.Views.{plan}
+use Rattle.plan_tree.specs.work.Views.{plan}
 use Rattle.plan_tree.proofs.FrontLemmas.{paths-after, offers-after, made-dominated, still-dominated}
 use Rattle.plan_tree.proofs.make.offer_scan.Goals as goal
 

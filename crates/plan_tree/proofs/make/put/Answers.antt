@@ -1,6 +1,6 @@
 use Rattle.std.proofs.Common.{sym, subst, OnOk}
-use Rattle.pareto.specs.Front.{IsCovered}
-use Rattle.plan_tree.specs.Views.{is_path_at_most}
+use Rattle.pareto.specs.work.Front.{IsCovered}
+use Rattle.plan_tree.specs.work.Views.{is_path_at_most}
 use Rattle.plan_tree.proofs.FrontLemmas.{kept-after, covered-after}
 use Rattle.plan_tree.proofs.make.put.Goals.{in-Ok, in-Err}
 use Rattle.plan_tree.proofs.make.put.Goals as goal

@@ -1,8 +1,9 @@
 use Rattle.std.proofs.Common.{◌∙◌, refl, sym, ap, arith}
 use Rattle.cost_rules.specs.declared.pair.Pair.{Pair}
 use Rattle.plan_tree.specs.Costs as costs
+use Rattle.plan_tree.specs.work.Costs as costs_work
 use Rattle.plan_tree.specs.Paths.{startup_kept}
-use Rattle.plan_tree.specs.Views.{plan}
+use Rattle.plan_tree.specs.work.Views.{plan}
 use Rattle.plan_tree.proofs.BoundLemmas.{lawful-rows, startup-most}
 use Rattle.plan_tree.proofs.PathLemmas.{built-below, uncut}
 use Rattle.plan_tree.proofs.make.scan_path.Goals as goal

@@ -2,9 +2,9 @@ use Rattle.std.proofs.Common.{◌∙◌, length, arith}
 use Rattle.std.specs.List.{list_all}
 use Rattle.pg_base.specs.Sets.{has}
 use Rattle.std.proofs.lemmas.Bool.{and_parts}
-use Rattle.pg_expr.specs.View.{cond}
+use Rattle.pg_expr.specs.work.View.{cond}
 use Rattle.sql_query.specs.catalog_Contents.{index_at}
-use Rattle.cost_rules.specs.Costs.{capped}
+use Rattle.cost_rules.specs.work.Costs.{capped}
 use Rattle.index_match.specs.Arms.{arm_parts, takes_parts}
 use Rattle.index_match.specs.Conditions.{is_condition}
 use Rattle.index_match.proofs.ArmLemmas.{parts_few}

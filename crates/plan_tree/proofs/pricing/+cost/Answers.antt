@@ -1,13 +1,14 @@
 use Rattle.std.proofs.Common.{◌∙◌, ap, sym, subst}
-use Rattle.cost_rules.specs.Costs.{capped_pair, sort_cost}
+use Rattle.cost_rules.specs.Costs.{sort_cost}
+use Rattle.cost_rules.specs.work.Costs.{capped_pair}
 use Rattle.cost_rules.proofs.CapLemmas.{sort-capped}
 use Rattle.path_cost.specs.Estimates.{set_rows}
 use Rattle.sql_query.specs.Queries.{width}
 use Rattle.plan_tree.specs.Costs.{cost}
 use Rattle.plan_tree.specs.Plans.{set_of}
-use Rattle.plan_tree.specs.Reads.{ReadsBelow}
+use Rattle.plan_tree.specs.work.Reads.{ReadsBelow}
 use Rattle.plan_tree.specs.declared.plan.Plan.{Plan as Planned}
-use Rattle.plan_tree.specs.Views.{plan}
+use Rattle.plan_tree.specs.work.Views.{plan}
 use Rattle.plan_tree.proofs.EstimateLemmas.{below-more}
 use Rattle.plan_tree.proofs.PricingLemmas.{costable-reads}
 use Rattle.plan_tree.proofs.pricing.+cost.Goals as goal

@@ -1,10 +1,10 @@
 use Rattle.std.proofs.Common.{◌≡◌, ◌∙◌, ap, sym, subst, map}
-use Rattle.cost_rules.specs.Costs.{capped}
-use Rattle.plan_tree.specs.Costable.{IsMatchedBy, IsCostableTree}
+use Rattle.cost_rules.specs.work.Costs.{capped}
+use Rattle.plan_tree.specs.work.Costable.{IsMatchedBy, IsCostableTree}
 use Rattle.plan_tree.specs.Costs.{parts_of_all, part_of}
 use Rattle.plan_tree.specs.Bitmaps.{condition_at}
 use Rattle.plan_tree.specs.Plans.{BitTree, some_arm}
-use Rattle.plan_tree.specs.Views.{bits, trees_of}
+use Rattle.plan_tree.specs.work.Views.{bits, trees_of}
 use Rattle.plan_tree.proofs.PricingLemmas.{or-bits, arms-zip, arms-total, trees-done, trees-long}
 use Rattle.plan_tree.proofs.pricing.+parts.Goals as goal
 

@@ -1,9 +1,9 @@
 use Rattle.std.proofs.Common.{◌≡◌, ◌≤◌, ◌+◌, drop, sum}
 use Rattle.cost_rules.specs.declared.parameters.TheConstants.{MOST_COST}
-use Rattle.cost_rules.specs.Costs.{capped}
-use Rattle.plan_tree.specs.Costable.{AreCostableTrees}
+use Rattle.cost_rules.specs.work.Costs.{capped}
+use Rattle.plan_tree.specs.work.Costable.{AreCostableTrees}
 use Rattle.plan_tree.specs.Costs.{parts_of_all}
-use Rattle.plan_tree.specs.Views.{bits_all}
+use Rattle.plan_tree.specs.work.Views.{bits_all}
 use Rattle.plan_tree.proofs.pricing.+parts.Given as goal
 
 -- the parts that are left, with the sum so far, give that of all

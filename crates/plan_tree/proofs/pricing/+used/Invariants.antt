@@ -1,9 +1,9 @@
 use Rattle.std.proofs.Common.{◌≡◌, ◌||◌, ◌&&◌, ℕ, nat_lt, length, drop}
 use Rattle.pg_base.specs.Sets.{has}
-use Rattle.pg_expr.specs.AtomSets.{contains}
+use Rattle.pg_expr.specs.work.AtomSets.{contains}
 use Rattle.plan_tree.specs.Bitmaps.{some_uses}
-use Rattle.plan_tree.specs.Costable.{AreCostableTrees}
-use Rattle.plan_tree.specs.Views.{bits_all}
+use Rattle.plan_tree.specs.work.Costable.{AreCostableTrees}
+use Rattle.plan_tree.specs.work.Views.{bits_all}
 use Rattle.plan_tree.proofs.pricing.+used.Given as goal
 
 -- the clauses that the trees left use, with those so far, are those of all

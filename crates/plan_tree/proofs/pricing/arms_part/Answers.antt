@@ -1,10 +1,10 @@
 use Rattle.std.proofs.Common.{◌≡◌, ◌∙◌, ◌+◌, ap, sym, subst, true, map, drop, sum, arith, get_or}
 use Rattle.pg_expr.specs.declared.expr.Expr.{Expr}
-use Rattle.pg_expr.specs.View.{cond}
+use Rattle.pg_expr.specs.work.View.{cond}
 use Rattle.sql_query.specs.catalog_Contents.{index_at}
-use Rattle.cost_rules.specs.Costs.{capped}
+use Rattle.cost_rules.specs.work.Costs.{capped}
 use Rattle.index_match.specs.Arms.{is_matched}
-use Rattle.plan_tree.specs.Costable.{IsMatchedBy}
+use Rattle.plan_tree.specs.work.Costable.{IsMatchedBy}
 use Rattle.plan_tree.specs.Costs.{parts_of_arms}
 use Rattle.plan_tree.proofs.PricingLemmas.{zip-at, zip-within, part-of-arm, arm-done, arms-done, arms-long}
 use Rattle.plan_tree.proofs.pricing.arms_part.Goals as goal

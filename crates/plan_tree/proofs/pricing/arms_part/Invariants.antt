@@ -1,7 +1,7 @@
 use Rattle.std.proofs.Common.{◌≡◌, ◌≤◌, ◌+◌, map, drop, sum}
 use Rattle.cost_rules.specs.declared.parameters.TheConstants.{MOST_COST}
-use Rattle.cost_rules.specs.Costs.{capped}
-use Rattle.pg_expr.specs.View.{cond}
+use Rattle.cost_rules.specs.work.Costs.{capped}
+use Rattle.pg_expr.specs.work.View.{cond}
 use Rattle.plan_tree.specs.Costs.{parts_of_arms}
 use Rattle.plan_tree.proofs.pricing.arms_part.Given as goal
 

@@ -1,11 +1,11 @@
 use Rattle.std.proofs.Common.{◌≡◌, ◌∙◌, ◌&&◌, ◌||◌, ℕ, ap, nat_lt, length}
 use Rattle.pg_base.specs.Sets.{has}
-use Rattle.pg_expr.specs.AtomSets.{contains}
-use Rattle.cost_rules.specs.Costs.{capped_pair}
+use Rattle.pg_expr.specs.work.AtomSets.{contains}
+use Rattle.cost_rules.specs.work.Costs.{capped_pair}
 use Rattle.path_cost.specs.Costs.{bitmap_cost}
 use Rattle.plan_tree.specs.Bitmaps.{uses}
 use Rattle.plan_tree.specs.Costs.{part_of}
-use Rattle.plan_tree.specs.Views.{bits}
+use Rattle.plan_tree.specs.work.Views.{bits}
 use Rattle.plan_tree.proofs.PricingLemmas.{bitmap-costs}
 use Rattle.plan_tree.proofs.pricing.bitmap_scan_cost.Goals as goal
 

@@ -1,6 +1,6 @@
 use Rattle.std.proofs.Common.{◌∙◌}
 use Rattle.pg_base.specs.Sets.{has}
-use Rattle.cost_rules.specs.Costs.{capped_pair}
+use Rattle.cost_rules.specs.work.Costs.{capped_pair}
 use Rattle.path_cost.specs.Costs.{index_cost}
 use Rattle.index_match.specs.Bounds.{index_bounds}
 use Rattle.index_match.specs.Conditions.{index_conditions}

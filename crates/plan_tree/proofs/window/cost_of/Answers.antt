@@ -1,5 +1,5 @@
 use Rattle.std.proofs.Common.{arith}
-use Rattle.plan_tree.specs.Views.{path}
+use Rattle.plan_tree.specs.work.Views.{path}
 use Rattle.plan_tree.proofs.BoundLemmas.{lawful-rows}
 use Rattle.plan_tree.proofs.WindowLemmas.{path-cost}
 use Rattle.plan_tree.proofs.window.cost_of.Goals as goal

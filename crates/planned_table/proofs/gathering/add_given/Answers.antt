@@ -1,7 +1,7 @@
 use Rattle.std.proofs.Common.{◌≡◌, ◌+◌, arith, refl}
 use Rattle.pg_base.specs.declared.rel_set.RelSet.{RelSet}
-use Rattle.join_search.specs.Tables.{paths_at}
-use Rattle.planned_table.specs.Gathering.{shown}
+use Rattle.join_search.specs.work.Tables.{paths_at}
+use Rattle.planned_table.specs.work.Gathering.{shown}
 use Rattle.planned_table.proofs.GatherLemmas.{given-all, given-more, given-none}
 use Rattle.planned_table.proofs.gathering.add_given.Goals as goal
 

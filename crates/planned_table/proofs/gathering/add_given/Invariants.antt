@@ -1,6 +1,6 @@
 use Rattle.std.proofs.Common.{◌≤◌}
-use Rattle.join_search.specs.Tables.{paths_at}
-use Rattle.planned_table.specs.Gathering.{AreGathered, IsBelowOr, shown}
+use Rattle.join_search.specs.work.Tables.{paths_at}
+use Rattle.planned_table.specs.work.Gathering.{AreGathered, IsBelowOr, shown}
 use Rattle.planned_table.proofs.gathering.add_given.Given as goal
 
 abbrev pub invariant-loop-bits : goal.invariant-loop-bits

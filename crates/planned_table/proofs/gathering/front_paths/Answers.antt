@@ -1,9 +1,9 @@
 use Rattle.std.proofs.Common.{ap, subst}
-use Rattle.pareto.specs.Front.{Unrelated}
-use Rattle.plan_tree.specs.Paths.{is_at_most}
-use Rattle.plan_tree.specs.Views.{path}
-use Rattle.join_search.specs.Tables.{paths_of}
-use Rattle.planned_table.specs.Gathering.{AreUnrelated}
+use Rattle.pareto.specs.work.Front.{Unrelated}
+use Rattle.plan_tree.specs.work.Paths.{is_at_most}
+use Rattle.plan_tree.specs.work.Views.{path}
+use Rattle.join_search.specs.work.Tables.{paths_of}
+use Rattle.planned_table.specs.work.Gathering.{AreUnrelated}
 use Rattle.planned_table.proofs.GatherLemmas.{pairs-mapped}
 use Rattle.planned_table.proofs.gathering.front_paths.Goals as goal
 

@@ -1,6 +1,6 @@
 use Rattle.std.proofs.Common.{◌≡◌, ℕ, arith, subst}
-use Rattle.join_search.specs.Tables.{paths_at}
-use Rattle.planned_table.specs.Gathering.{AreGathered, IsBelow, shown}
+use Rattle.join_search.specs.work.Tables.{paths_at}
+use Rattle.planned_table.specs.work.Gathering.{AreGathered, IsBelow, shown}
 use Rattle.planned_table.proofs.GatherLemmas.{whole-first}
 use Rattle.planned_table.proofs.gathering.gathered.Goals as goal
 

@@ -1,5 +1,5 @@
-use Rattle.join_search.specs.Tables.{paths_at}
-use Rattle.planned_table.specs.Gathering.{AreGathered, IsBelow, shown}
+use Rattle.join_search.specs.work.Tables.{paths_at}
+use Rattle.planned_table.specs.work.Gathering.{AreGathered, IsBelow, shown}
 use Rattle.planned_table.proofs.gathering.gathered.Given as goal
 
 abbrev pub invariant-loop-r : goal.invariant-loop-r

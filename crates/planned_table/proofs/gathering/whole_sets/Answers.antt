@@ -1,7 +1,7 @@
 use Rattle.std.proofs.Common.{refl}
 use Rattle.pg_base.specs.declared.rel_set.RelSet.{RelSet}
-use Rattle.join_search.specs.Tables.{none, paths_at}
-use Rattle.planned_table.specs.Gathering.{shown}
+use Rattle.join_search.specs.work.Tables.{none, paths_at}
+use Rattle.planned_table.specs.work.Gathering.{shown}
 use Rattle.planned_table.proofs.GatherLemmas.{whole-more}
 use Rattle.planned_table.proofs.gathering.whole_sets.Goals as goal
 

@@ -1,5 +1,5 @@
-use Rattle.join_search.specs.Tables.{paths_at}
-use Rattle.planned_table.specs.Gathering.{AreGathered, IsWholeBelow, shown}
+use Rattle.join_search.specs.work.Tables.{paths_at}
+use Rattle.planned_table.specs.work.Gathering.{AreGathered, IsWholeBelow, shown}
 use Rattle.planned_table.proofs.gathering.whole_sets.Given as goal
 
 abbrev pub invariant-loop-bits : goal.invariant-loop-bits

@@ -1,7 +1,7 @@
 use Rattle.std.proofs.Common.{take}
-use Rattle.plan_tree.specs.Views.{plan}
+use Rattle.plan_tree.specs.work.Views.{plan}
 use Rattle.plan_check.specs.Views.{side}
-use Rattle.planned_table.specs.Numbering.{trees}
+use Rattle.planned_table.specs.work.Numbering.{trees}
 use Rattle.planned_table.proofs.MakeLemmas.{merge-plan}
 use Rattle.planned_table.proofs.NumberLemmas.{side-unsorted}
 use Rattle.planned_table.proofs.making.merge_of.Goals as goal

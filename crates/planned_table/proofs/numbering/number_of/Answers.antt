@@ -1,5 +1,5 @@
-use Rattle.plan_tree.specs.Views.{plan}
-use Rattle.planned_table.specs.Numbering.{trees}
+use Rattle.plan_tree.specs.work.Views.{plan}
+use Rattle.planned_table.specs.work.Numbering.{trees}
 use Rattle.planned_table.proofs.NumberLemmas.{numbered}
 use Rattle.planned_table.proofs.numbering.number_of.Goals as goal
 

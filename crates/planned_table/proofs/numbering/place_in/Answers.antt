@@ -1,8 +1,8 @@
 use Rattle.std.proofs.Common.{Bor, ap, arith, sym, ◌∙◌, true≢false}
 use Rattle.std.specs.Prelude.{slice_get}
-use Rattle.plan_tree.specs.Views.{plan}
+use Rattle.plan_tree.specs.work.Views.{plan}
 use Rattle.plan_tree.specs.declared.path.Path.{Path as Costed}
-use Rattle.planned_table.specs.Numbering.{trees}
+use Rattle.planned_table.specs.work.Numbering.{trees}
 use Rattle.planned_table.proofs.NumberLemmas.{none-more, other-tree, tree-at}
 use Rattle.planned_table.proofs.numbering.place_in.Goals as goal
 

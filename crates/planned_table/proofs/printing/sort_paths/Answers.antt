@@ -6,7 +6,7 @@ use Rattle.pg_value.specs.Sorting.{IsInOrder}
 use Rattle.pg_value.proofs.SortByLemmas.{sorted_by_closure}
 use Rattle.pg_value.proofs.SortingLemmas.{in_order_is}
 use Rattle.plan_tree.specs.declared.path.Path.{Path as Costed}
-use Rattle.certificate_laws.specs.Printing.{path_order}
+use Rattle.certificate_laws.specs.work.Printing.{path_order}
 use Rattle.planned_table.proofs.MakeLemmas.{one}
 use Rattle.planned_table.proofs.OrderLemmas.{order-mapped, path-total}
 use Rattle.planned_table.proofs.printing.sort_paths.Goals as goal

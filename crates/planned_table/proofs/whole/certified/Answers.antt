@@ -3,17 +3,17 @@ use Rattle.std.proofs.lemmas.List.{length-map}
 use Rattle.pathkeys.specs.Keys.{Keys, covers}
 use Rattle.pg_value.specs.Sorting.{IsInOrder}
 use Rattle.sql_query.specs.Queries.{width}
-use Rattle.plan_tree.specs.Views.{path}
+use Rattle.plan_tree.specs.work.Views.{path}
 use Rattle.plan_tree.specs.declared.path.Path.{Path as Costed}
-use Rattle.join_search.specs.Tables.{none, paths_at}
+use Rattle.join_search.specs.work.Tables.{none, paths_at}
 use Rattle.certificate_laws.specs.planner_Finishing.{finished}
-use Rattle.plan_check.specs.Views.{certificate, entry}
-use Rattle.certificate_laws.specs.Printing.{path_order}
-use Rattle.certificate_laws.specs.Searched.{AreOfFronts}
+use Rattle.plan_check.specs.work.Views.{certificate, entry}
+use Rattle.certificate_laws.specs.work.Printing.{path_order}
+use Rattle.certificate_laws.specs.work.Searched.{AreOfFronts}
 use Rattle.certificate_laws.proofs.FrontsLemmas.{at-place}
 use Rattle.certificate_laws.proofs.OrderLemmas.{ordered-entries}
 use Rattle.certificate_laws.proofs.TurnLemmas.{made-in-turn}
-use Rattle.planned_table.specs.Gathering.{shown}
+use Rattle.planned_table.specs.work.Gathering.{shown}
 use Rattle.planned_table.proofs.MakeLemmas.{best-unfolds}
 use Rattle.planned_table.proofs.WholeLemmas.{below-listed, table-of, text-of, tree-there}
 use Rattle.planned_table.proofs.whole.certified.Goals as goal

@@ -1,17 +1,17 @@
 use Rattle.std.proofs.Common.{map, arith, subst, sym, le_refl}
 use Rattle.std.specs.Prelude.{All, Contains, List}
 use Rattle.cost_rules.specs.declared.parameters.TheConstants.{MOST_COST}
-use Rattle.plan_tree.specs.Paths.{Path}
-use Rattle.plan_tree.specs.Views.{path}
+use Rattle.plan_tree.specs.work.Paths.{Path}
+use Rattle.plan_tree.specs.work.Views.{path}
 use Rattle.plan_tree.specs.declared.path.Path.{Path as Costed}
 use Rattle.plan_tree.proofs.BoundLemmas.{lawful-rows}
 use Rattle.plan_tree.proofs.FrontLemmas.{contains-mapped}
-use Rattle.join_search.specs.Tables.{paths_at}
+use Rattle.join_search.specs.work.Tables.{paths_at}
 use Rattle.certificate_laws.specs.planner_Finishing.{AreCandidates, IsLeastOf, IsPriced, IsWhole}
 use Rattle.certificate_laws.specs.planner_PlaceLemmas.{at-place}
 use Rattle.certificate_laws.specs.planner_PriceLemmas.{least-best, none-finished}
 use Rattle.certificate_laws.specs.planner_SearchLemmas.{candidates, whole-paths}
-use Rattle.certificate_laws.specs.Searched.{all_asked}
+use Rattle.certificate_laws.specs.work.Searched.{all_asked}
 use Rattle.planned_table.proofs.whole.least_path.Goals as goal
 
 pub least_place-requires-clause-whole : goal.least_place-requires-clause-whole

@@ -1,6 +1,6 @@
 use Rattle.std.proofs.Common.{ℕ, arith, ap, length, subst, ◌∙◌}
-use Rattle.join_search.specs.Tables.{paths_at}
-use Rattle.planned_table.specs.Gathering.{AreGathered, IsBelow, shown}
+use Rattle.join_search.specs.work.Tables.{paths_at}
+use Rattle.planned_table.specs.work.Gathering.{AreGathered, IsBelow, shown}
 use Rattle.planned_table.proofs.WholeLemmas.{all-gathered, moved-paths, stand-theirs}
 use Rattle.planned_table.proofs.whole.listed_paths.Goals as goal
 

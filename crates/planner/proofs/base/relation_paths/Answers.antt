@@ -3,10 +3,10 @@ use Rattle.std.specs.Prelude.{All}
 use Rattle.std.proofs.lemmas.List.Elements.{All-nil}
 use Rattle.pg_base.specs.Sets.{has}
 use Rattle.eq_classes.specs.Clauses.{one}
-use Rattle.plan_tree.specs.Fronts.{IsOffer}
-use Rattle.plan_tree.specs.Views.{path}
+use Rattle.plan_tree.specs.work.Fronts.{IsOffer}
+use Rattle.plan_tree.specs.work.Views.{path}
 use Rattle.plan_tree.specs.declared.path.Path.{Path}
-use Rattle.planner.specs.Bases.{is_plan}
+use Rattle.planner.specs.work.Bases.{is_plan}
 use Rattle.planner.proofs.BaseLemmas.{all-paths}
 use Rattle.planner.proofs.base.relation_paths.Goals as goal
 

@@ -1,10 +1,10 @@
 use Rattle.std.proofs.Common.{◌≡◌, ◌∙◌, ap, ap₂, false, sym, true}
-use Rattle.cost_rules.specs.Costs.{capped_pair}
+use Rattle.cost_rules.specs.work.Costs.{capped_pair}
 use Rattle.pathkeys.specs.Keys.{covers, order_keys}
 use Rattle.plan_tree.specs.Costs.{cost}
 use Rattle.plan_tree.specs.Keys.{keys_of}
-use Rattle.plan_tree.specs.Paths.{kept_cost}
-use Rattle.plan_tree.specs.Views.{path}
+use Rattle.plan_tree.specs.work.Paths.{kept_cost}
+use Rattle.plan_tree.specs.work.Views.{path}
 use Rattle.planner.proofs.PriceLemmas.{covered-finished, sorted-finished}
 use Rattle.planner.proofs.finishing.finished_cost.Goals as goal
 

@@ -1,7 +1,7 @@
 use Rattle.std.proofs.Common.{arith}
-use Rattle.plan_tree.specs.Views.{path}
+use Rattle.plan_tree.specs.work.Views.{path}
 use Rattle.plan_tree.proofs.BoundLemmas.{lawful-rows}
-use Rattle.planner.specs.Finishing.{finished}
+use Rattle.planner.specs.work.Finishing.{finished}
 use Rattle.planner.proofs.EstimateLemmas.{cut-finished, uncut-finished, whole-estimate, whole-query}
 use Rattle.planner.proofs.finishing.finished_price.Goals as goal
 

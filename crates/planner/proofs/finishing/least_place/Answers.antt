@@ -1,4 +1,4 @@
-use Rattle.planner.specs.Finishing.{IsWhole}
+use Rattle.planner.specs.work.Finishing.{IsWhole}
 use Rattle.planner.proofs.PlaceLemmas.{at-place, none-so-far, one-so-far, place-least, place-none}
 use Rattle.planner.proofs.finishing.least_place.Goals as goal
 

@@ -1,5 +1,5 @@
 use Rattle.std.proofs.Common.{ap, ◌∙◌}
-use Rattle.plan_tree.specs.Views.{path, plan}
+use Rattle.plan_tree.specs.work.Views.{path, plan}
 use Rattle.plan_tree.proofs.BoundLemmas.{lawful-rows}
 use Rattle.planner.proofs.EstimateLemmas.{same-numbers}
 use Rattle.planner.proofs.finishing.sorted.Goals as goal

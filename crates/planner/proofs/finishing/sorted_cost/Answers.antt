@@ -1,6 +1,6 @@
 use Rattle.std.proofs.Common.{◌∙◌, ap}
-use Rattle.plan_tree.specs.Paths.{kept_cost}
-use Rattle.plan_tree.specs.Views.{path}
+use Rattle.plan_tree.specs.work.Paths.{kept_cost}
+use Rattle.plan_tree.specs.work.Views.{path}
 use Rattle.planner.proofs.EstimateLemmas.{whole-estimate, whole-sorted}
 use Rattle.planner.proofs.finishing.sorted_cost.Goals as goal
 

@@ -1,10 +1,10 @@
 use Rattle.std.proofs.Common.{◌≡◌, ◌<◌, ℕ, List, [], ◌∷◌, length, map, arith, subst, sym}
 use Rattle.plan_tree.specs.Least.{IsBestPlan}
 use Rattle.plan_tree.specs.Space.{IsFinished}
-use Rattle.plan_tree.specs.Views.{path}
+use Rattle.plan_tree.specs.work.Views.{path}
 use Rattle.plan_tree.specs.declared.path.Path.{Path}
 use Rattle.plan_tree.proofs.BoundLemmas.{lawful-rows}
-use Rattle.planner.specs.Finishing.{IsLeastOf, IsPriced, IsWhole, finished}
+use Rattle.planner.specs.work.Finishing.{IsLeastOf, IsPriced, IsWhole, finished}
 use Rattle.planner.proofs.PriceLemmas.{is-finished, least-best, none-finished}
 use Rattle.planner.proofs.PlaceLemmas.{at-place}
 use Rattle.planner.proofs.least_plan.least_of.Goals as goal

@@ -1,7 +1,7 @@
 use Rattle.std.proofs.Common.{◌∙◌, subst, sym}
 use Rattle.std.specs.Prelude.{All}
-use Rattle.join_search.specs.Tables.{paths_at}
-use Rattle.planner.specs.Finishing.{IsWhole}
+use Rattle.join_search.specs.work.Tables.{paths_at}
+use Rattle.planner.specs.work.Finishing.{IsWhole}
 use Rattle.planner.proofs.SearchLemmas.{whole-paths}
 use Rattle.planner.proofs.TableLemmas.{base-forgotten}
 use Rattle.planner.proofs.least_plan.likely_limit.Goals as goal

@@ -1,8 +1,8 @@
 use Rattle.std.proofs.Common.{false, subst, sym}
-use Rattle.join_search.specs.Tables.{paths_at}
+use Rattle.join_search.specs.work.Tables.{paths_at}
 use Rattle.join_search.specs.declared.useful.Asked.{Asked}
 use Rattle.plan_tree.proofs.BoundLemmas.{lawful-rows}
-use Rattle.planner.specs.Finishing.{AreCandidates}
+use Rattle.planner.specs.work.Finishing.{AreCandidates}
 use Rattle.planner.proofs.SearchLemmas.{candidates}
 use Rattle.planner.proofs.TableLemmas.{scans-handed}
 use Rattle.planner.proofs.least_plan.plan_below.Goals as goal

@@ -1,6 +1,6 @@
 use Rattle.std.proofs.Common.{◌∙◌, ap, map}
-use Rattle.plan_tree.specs.Views.{path}
-use Rattle.join_search.specs.Tables.{paths_of}
+use Rattle.plan_tree.specs.work.Views.{path}
+use Rattle.join_search.specs.work.Tables.{paths_of}
 use Rattle.planner.proofs.least_plan.whole_paths.Goals as goal
 
 pub returns-in-Some : goal.returns-in-Some

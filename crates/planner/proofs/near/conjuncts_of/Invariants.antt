@@ -1,6 +1,6 @@
 use Rattle.std.proofs.Common.{◌≡◌, ℕ, ◌&&◌, nat_lt}
 use Rattle.std.specs.Prelude.{is_some}
-use Rattle.pg_expr.specs.AtomSets.{contains}
+use Rattle.pg_expr.specs.work.AtomSets.{contains}
 use Rattle.pg_expr.specs.Columns.{names_rel}
 use Rattle.eq_classes.specs.Listing.{clause_at, conjunct_of}
 use Rattle.planner.proofs.near.conjuncts_of.Given as goal

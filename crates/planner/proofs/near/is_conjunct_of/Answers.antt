@@ -1,5 +1,5 @@
 use Rattle.std.proofs.Common.{◌∙◌, ap, sym, subst, IsTrue}
-use Rattle.pg_expr.specs.Columns.{rels_below}
+use Rattle.pg_expr.specs.work.Columns.{rels_below}
 use Rattle.pg_expr.specs.Cond.{Cond}
 use Rattle.eq_classes.specs.Clauses.{ClassTable}
 use Rattle.eq_classes.specs.Listing.{clause_at}

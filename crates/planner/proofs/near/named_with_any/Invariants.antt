@@ -1,5 +1,5 @@
 use Rattle.pg_base.specs.Sets.{has}
-use Rattle.planner.specs.Near.{HavePairs}
+use Rattle.planner.specs.work.Near.{HavePairs}
 use Rattle.planner.proofs.near.named_with_any.Given as goal
 
 -- the pairs with the relations so far

@@ -1,5 +1,5 @@
 use Rattle.pg_base.specs.Sets.{has}
-use Rattle.pg_expr.specs.AtomSets.{contains}
+use Rattle.pg_expr.specs.work.AtomSets.{contains}
 use Rattle.planner.proofs.NearLemmas.{near-all}
 use Rattle.planner.proofs.near.relations_near.Goals as goal
 

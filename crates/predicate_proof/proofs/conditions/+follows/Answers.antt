@@ -1,5 +1,5 @@
 use Rattle.std.proofs.Common.{refl, arith}
-use Rattle.pg_expr.specs.View.{cond, conds}
+use Rattle.pg_expr.specs.work.View.{cond, conds}
 use Rattle.predicate_proof.specs.Derivation.{AllImply, EachImpliesSome, Implies, ImpliesAll, ImpliesSome, SomeImplies, no_part, no_arm, no_choice}
 use Rattle.predicate_proof.proofs.Lists.{weight_at, rest_is, end_is, all-more, all-stop, all-end, some-more, some-stop, some-end, each_part-step, some_part-step, no_some_part, each_arm-step, some_clause-step, no_some_clause, each_choice-step}
 use Rattle.predicate_proof.proofs.Inversion.{all-each, all-arms, any-arms, any-some, any-parts, atom-arms, atom-parts, atom-same, atom-comparison}

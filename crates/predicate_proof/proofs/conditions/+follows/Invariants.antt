@@ -1,6 +1,6 @@
 use Rattle.std.proofs.Common.{◌+◌, ◌*◌, drop}
 use Rattle.std.specs.Prelude.{◌↔◌}
-use Rattle.pg_expr.specs.View.{cond, conds}
+use Rattle.pg_expr.specs.work.View.{cond, conds}
 use Rattle.predicate_proof.proofs.Weight.{weight, weight_all}
 use Rattle.predicate_proof.specs.Derivation.{AllImply, EachImpliesSome, ImpliesAll, ImpliesSome, SomeImplies}
 use Rattle.predicate_proof.proofs.conditions.+follows.Given as goal

@@ -1,4 +1,4 @@
-use Rattle.predicate_proof.specs.Notes.{AreRight}
+use Rattle.predicate_proof.specs.work.Notes.{AreRight}
 use Rattle.predicate_proof.proofs.conditions.+note_clauses.Given as goal
 
 -- the levels that are left

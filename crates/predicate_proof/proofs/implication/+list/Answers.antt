@@ -1,5 +1,5 @@
 use Rattle.std.proofs.Common.{refl, arith}
-use Rattle.pg_expr.specs.View.{cond, conds}
+use Rattle.pg_expr.specs.work.View.{cond, conds}
 use Rattle.pg_expr.specs.Cond.{all_of, conds_of}
 use Rattle.predicate_proof.specs.Derivation.{Implies, ImpliesAll, ImpliesSome, no_part}
 use Rattle.predicate_proof.proofs.Lists.{weight_at, rest_is, end_is, all-more, all-stop, all-end, some-more, some-stop, some-end, each_part-step, some_part-step, no_some_part}

@@ -1,7 +1,7 @@
 use Rattle.std.proofs.Common.{◌+◌, ◌*◌, drop}
 use Rattle.std.specs.Prelude.{◌↔◌}
 use Rattle.pg_expr.specs.Cond.{all_of, conds_of}
-use Rattle.pg_expr.specs.View.{cond, conds}
+use Rattle.pg_expr.specs.work.View.{cond, conds}
 use Rattle.predicate_proof.proofs.Weight.{weight, weight_all}
 use Rattle.predicate_proof.specs.Derivation.{ImpliesAll, ImpliesSome}
 use Rattle.predicate_proof.proofs.implication.+list.Given as goal

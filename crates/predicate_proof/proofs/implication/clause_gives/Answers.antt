@@ -1,5 +1,5 @@
 use Rattle.std.proofs.Common.{refl, arith}
-use Rattle.pg_expr.specs.View.{cond}
+use Rattle.pg_expr.specs.work.View.{cond}
 use Rattle.pg_expr.specs.Cond.{conds_of}
 use Rattle.predicate_proof.specs.Derivation.{Implies, SomeImplies}
 use Rattle.predicate_proof.proofs.Lists.{tree_rest_is, tree_end_is, some-more, some-stop, some-end, some_clause-step, no_some_clause}

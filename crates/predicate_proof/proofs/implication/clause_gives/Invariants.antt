@@ -1,7 +1,7 @@
 use Rattle.std.proofs.Common.{drop}
 use Rattle.std.specs.Prelude.{◌↔◌}
 use Rattle.pg_expr.specs.Cond.{conds_of}
-use Rattle.pg_expr.specs.View.{cond}
+use Rattle.pg_expr.specs.work.View.{cond}
 use Rattle.predicate_proof.specs.Derivation.{SomeImplies}
 use Rattle.predicate_proof.proofs.implication.clause_gives.Given as goal
 

@@ -1,7 +1,8 @@
 use Rattle.std.proofs.Common.{◌≡◌, List, true, refl}
 use Rattle.pg_value.specs.declared.columns.Column.{Column}
 use Rattle.pg_expr.specs.Cond.{Cond, all_of, any_of, Conds, no_conds, cond_and}
-use Rattle.predicate_proof.specs.Derivation.{Implies, each_part, atom_to_part, part_to_atom, all_to_part, part_to_any, same, ImpliesAll, part_and, ImpliesSome, this_part, later_part, SomeImplies, IsFilled, AreFilled}
+use Rattle.predicate_proof.specs.Derivation.{Implies, each_part, atom_to_part, part_to_atom, all_to_part, part_to_any, same, ImpliesAll, part_and, ImpliesSome, this_part, later_part, SomeImplies}
+use Rattle.predicate_proof.specs.work.Derivation.{IsFilled, AreFilled}
 use Rattle.predicate_proof.specs.Atoms.{is_atom}
 use Rattle.predicate_proof.proofs.Lists.{no_some_clause}
 use Rattle.predicate_proof.proofs.implication.no_clauses_imply_nothing.Goals as goal

@@ -1,5 +1,5 @@
 use Rattle.std.proofs.Common.{◌++◌, ◌+◌, Ok, drop, sym, ap, ◌∙◌, arith, append_assoc}
-use Rattle.query_reader.specs.Scope.{visible_in}
+use Rattle.query_reader.specs.work.Scope.{visible_in}
 use Rattle.query_reader.specs.Binding.{list_columns, then_columns}
 use Rattle.query_reader.proofs.AddLemmas.{adds-ok, list-stopped, then-then, next-item-columns}
 use Rattle.query_reader.proofs.bind.add_items.Goals as goal

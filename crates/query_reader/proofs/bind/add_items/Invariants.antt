@@ -1,6 +1,6 @@
 use Rattle.std.proofs.Common.{◌≡◌, List, ◌++◌, drop, Ok}
 use Rattle.pg_expr.specs.declared.operand.ColRef.{ColRef}
-use Rattle.query_reader.specs.Scope.{visible_in}
+use Rattle.query_reader.specs.work.Scope.{visible_in}
 use Rattle.query_reader.specs.Binding.{then_columns, list_columns}
 use Rattle.query_reader.proofs.bind.add_items.Given as goal
 

@@ -7,7 +7,7 @@ use Rattle.sql_grammar.specs.Words.{words_of_order, words_of_where, words_of_win
 use Rattle.expr_reader.proofs.StepLemmas.{step, stop}
 use Rattle.query_reader.specs.Binding.{Bound, bound_over}
 use Rattle.query_reader.specs.From.{Joined, nothing_joined, with_groups}
-use Rattle.query_reader.specs.Select.{IsBoundByItself, IsBoundAs}
+use Rattle.query_reader.specs.work.Select.{IsBoundByItself, IsBoundAs}
 use Rattle.query_reader.proofs.GrowLemmas.{some-groups}
 use Rattle.query_reader.proofs.JoinLemmas.{behind-from}
 use Rattle.query_reader.proofs.QueryLemmas.{stopped}

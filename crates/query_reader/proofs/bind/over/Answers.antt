@@ -6,22 +6,22 @@ use Rattle.pg_base.specs.declared.faults.Refusal.TheVariants as refusal
 use Rattle.pg_expr.specs.declared.expr.Exprs.{Exprs}
 use Rattle.pg_expr.specs.declared.operand.ColRef.{ColRef}
 use Rattle.pg_expr.specs.Cond.{Cond}
-use Rattle.pg_expr.specs.View.{cond}
+use Rattle.pg_expr.specs.work.View.{cond}
 use Rattle.catalog.specs.Range.{Range, type_in}
 use Rattle.eq_classes.specs.Classes.{conjuncts_in}
 use Rattle.eq_classes.specs.Clauses.{ClassTable}
 use Rattle.eq_classes.specs.Holding.{IsClassTable}
 use Rattle.eq_classes.specs.declared.order.OrderItem.{OrderItem}
-use Rattle.expr_reader.specs.Reads.{Reads}
+use Rattle.expr_reader.specs.work.Reads.{Reads}
 use Rattle.expr_reader.proofs.ReadsLemmas.{was-read}
-use Rattle.path_cost.specs.Columns.{IsOver, is_column_in}
+use Rattle.path_cost.specs.work.Columns.{IsOver, is_column_in}
 use Rattle.sql_grammar.specs.Words.{words_of_order, words_of_window}
-use Rattle.query_reader.specs.Select.{IsBoundByItself}
+use Rattle.query_reader.specs.work.Select.{IsBoundByItself}
 use Rattle.query_reader.specs.Binding.{conjuncts_written, limited, list_columns, named_in, past_limit}
 use Rattle.query_reader.specs.Windows.{window_of}
 use Rattle.query_reader.specs.From.{Joined}
 use Rattle.query_reader.specs.Order.{order_items}
-use Rattle.query_reader.specs.Scope.{Sight, visible_in}
+use Rattle.query_reader.specs.work.Scope.{Sight, visible_in}
 use Rattle.query_reader.proofs.BoundLemmas.{well-bound}
 use Rattle.query_reader.proofs.QueryLemmas.{added-all, adds-fault, all-meant, at-joined, both-conjuncts, bound-at, columns-wrong, conjuncts-wrong, conveys-fault, limit-wrong, order-wrong, read-so, reads-fault, same-query, stopped, stopped-short, told-fault, window-wrong, within}
 use Rattle.query_reader.proofs.ReadingLemmas.{ends-order, ends-where}

@@ -1,5 +1,5 @@
 use Rattle.std.proofs.Common.{map}
-use Rattle.pg_expr.specs.View.{cond}
+use Rattle.pg_expr.specs.work.View.{cond}
 use Rattle.query_reader.proofs.ConjunctLemmas.{order-near, pushed-bound, pushed-near, pushed-typed}
 use Rattle.query_reader.proofs.conditions.classes_within.Goals as goal
 

@@ -1,7 +1,7 @@
 use Rattle.catalog.specs.Range.{type_in}
-use Rattle.path_cost.specs.Columns.{is_column_in}
-use Rattle.pg_expr.specs.View.{cond}
-use Rattle.query_reader.specs.Scope.{visible_in}
+use Rattle.path_cost.specs.work.Columns.{is_column_in}
+use Rattle.pg_expr.specs.work.View.{cond}
+use Rattle.query_reader.specs.work.Scope.{visible_in}
 use Rattle.query_reader.proofs.ConjunctLemmas.{conjuncts-over}
 use Rattle.query_reader.proofs.WhereLemmas.{condition-stopped, condition-read}
 use Rattle.query_reader.proofs.conditions.conjuncts_next.Goals as goal

@@ -1,6 +1,6 @@
 use Rattle.std.proofs.Common.{false, ap, ◌∙◌}
 use Rattle.pg_expr.specs.Pushed.{pushed}
-use Rattle.pg_expr.specs.View.{cond}
+use Rattle.pg_expr.specs.work.View.{cond}
 use Rattle.query_reader.proofs.ConjunctLemmas.{pushed-more}
 use Rattle.query_reader.proofs.conditions.pushed_conjuncts.Goals as goal
 

@@ -1,5 +1,5 @@
 use Rattle.std.proofs.Common.{◌≡◌, ◌≤◌, [], drop, length, map, drop_of_length-le, ap, arith}
-use Rattle.pg_expr.specs.View.{cond}
+use Rattle.pg_expr.specs.work.View.{cond}
 use Rattle.eq_classes.specs.Classes.{conjuncts_in}
 use Rattle.query_reader.proofs.ConjunctLemmas.{counted-more}
 use Rattle.query_reader.proofs.conditions.pushed_count.Goals as goal

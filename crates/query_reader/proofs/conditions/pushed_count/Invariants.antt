@@ -1,5 +1,5 @@
 use Rattle.std.proofs.Common.{◌≡◌, ◌+◌, ◌-◌, ◌^◌, ◌<◌, length, map, min, drop}
-use Rattle.pg_expr.specs.View.{cond}
+use Rattle.pg_expr.specs.work.View.{cond}
 use Rattle.eq_classes.specs.Classes.{conjuncts_in}
 use Rattle.query_reader.proofs.conditions.pushed_count.Given as goal
 

@@ -1,6 +1,6 @@
 use Rattle.std.proofs.Common.{refl, ap, sym, ◌∙◌}
 use Rattle.catalog.specs.Range.{type_in}
-use Rattle.query_reader.specs.Scope.{visible_in}
+use Rattle.query_reader.specs.work.Scope.{visible_in}
 use Rattle.query_reader.proofs.WhereLemmas.{there, no-condition, where-read}
 use Rattle.query_reader.proofs.conditions.written_conjuncts.Goals as goal
 

@@ -1,5 +1,5 @@
 use Rattle.std.proofs.Common.{◌≡◌, ◌++◌, ◌≤◌, [], drop, length, drop_of_length-le, sym, ap, ◌∙◌, arith, append-nil}
-use Rattle.pg_expr.specs.View.{conds}
+use Rattle.pg_expr.specs.work.View.{conds}
 use Rattle.query_reader.specs.Named.{columns_in_all}
 use Rattle.query_reader.proofs.named.+named.Goals as goal
 

@@ -1,12 +1,12 @@
 use Rattle.std.proofs.Common.{List, Vec, Ok, refl, sym, ap, ◌∙◌, subst}
 use Rattle.std.specs.declared.alloc.Global.{Global}
 use Rattle.eq_classes.specs.declared.order.OrderItem.{OrderItem}
-use Rattle.path_cost.specs.Columns.{is_column_in}
+use Rattle.path_cost.specs.work.Columns.{is_column_in}
 use Rattle.pg_expr.specs.declared.operand.ColRef.{ColRef}
 use Rattle.expr_reader.proofs.ReadsLemmas.{read-ok, read-has}
-use Rattle.expr_reader.specs.Reads.{Reads}
+use Rattle.expr_reader.specs.work.Reads.{Reads}
 use Rattle.query_reader.specs.Order.{order_items}
-use Rattle.query_reader.specs.Scope.{visible_in}
+use Rattle.query_reader.specs.work.Scope.{visible_in}
 use Rattle.query_reader.proofs.OrderLemmas.{there, no-order, order-seen}
 use Rattle.query_reader.proofs.order.order_by.Goals as goal
 

@@ -2,7 +2,7 @@ use Rattle.std.proofs.Common.{refl, sym, ◌∙◌}
 use Rattle.pg_expr.specs.declared.operand.ColRef.{ColRef}
 use Rattle.expr_reader.proofs.OperandLemmas.{bare-col}
 use Rattle.expr_reader.proofs.ReadsLemmas.{read-fault, read-ok}
-use Rattle.query_reader.specs.Scope.{visible_in}
+use Rattle.query_reader.specs.work.Scope.{visible_in}
 use Rattle.query_reader.proofs.OrderLemmas.{bare-ordering}
 use Rattle.query_reader.proofs.order.order_column.Goals as goal
 

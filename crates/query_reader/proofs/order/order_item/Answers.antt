@@ -1,4 +1,4 @@
-use Rattle.query_reader.specs.Scope.{visible_in}
+use Rattle.query_reader.specs.work.Scope.{visible_in}
 use Rattle.query_reader.proofs.OrderLemmas.{column-words, item-read, item-stopped}
 use Rattle.query_reader.proofs.order.order_item.Goals as goal
 

@@ -4,7 +4,7 @@ use Rattle.eq_classes.specs.declared.order.OrderItem.{OrderItem}
 use Rattle.sql_grammar.specs.Words.{words_of_orderings}
 use Rattle.expr_reader.proofs.ReadsLemmas.{read-ok, read-refused, was-read}
 use Rattle.query_reader.specs.Order.{order_item}
-use Rattle.query_reader.specs.Scope.{visible_in}
+use Rattle.query_reader.specs.work.Scope.{visible_in}
 use Rattle.query_reader.proofs.OrderLemmas.{more-orders, first, next-item, at-fault, more, all-read}
 use Rattle.query_reader.proofs.order.order_items.Goals as goal
 

@@ -3,9 +3,9 @@ use Rattle.sql_grammar.specs.Terminals.{Terminal}
 use Rattle.sql_grammar.specs.Syntax.{Mark, Ordering}
 use Rattle.sql_grammar.specs.Words.{words_of_ordering, words_of_orderings}
 use Rattle.expr_reader.specs.Lists.{further_parts}
-use Rattle.query_reader.specs.Ends.{ends_order}
+use Rattle.query_reader.specs.work.Ends.{ends_order}
 use Rattle.query_reader.specs.Order.{order_item}
-use Rattle.query_reader.specs.Scope.{visible_in}
+use Rattle.query_reader.specs.work.Scope.{visible_in}
 use Rattle.query_reader.proofs.OrderLemmas.{So}
 use Rattle.query_reader.proofs.order.order_items.Given as goal
 

@@ -1,7 +1,7 @@
 use Rattle.std.proofs.Common.{refl, sym, subst, ◌∙◌}
 use Rattle.sql_grammar.specs.Terminals.{t_key}
 use Rattle.sql_grammar.specs.declared.class.Word.TheVariants.{Cross as CrossKey, Inner as InnerKey, Join as JoinKey}
-use Rattle.expr_reader.specs.Reading.{BeginsNot}
+use Rattle.expr_reader.specs.work.Reading.{BeginsNot}
 use Rattle.query_reader.proofs.JoinLemmas.{next-cross, next-inner, next-join, no-join}
 use Rattle.query_reader.proofs.read.joining.Goals as goal
 

@@ -5,7 +5,7 @@ use Rattle.sql_grammar.specs.Words.{words_of_group, words_of_groups, words_of_ou
 use Rattle.expr_reader.proofs.Named.{AreNamed, named-from}
 use Rattle.query_reader.specs.declared.written.Item.{Item}
 use Rattle.query_reader.specs.Binding.{bound_from}
-use Rattle.query_reader.specs.Select.{IsBoundByItself, IsBoundAs}
+use Rattle.query_reader.specs.work.Select.{IsBoundByItself, IsBoundAs}
 use Rattle.query_reader.proofs.AliasLemmas.{after-words, named-query}
 use Rattle.query_reader.proofs.PlaceLemmas.{part-goes-on}
 use Rattle.query_reader.proofs.ReadingLemmas.{at-start, behind, some-token, tree, words-named}

@@ -1,7 +1,7 @@
 use Rattle.std.proofs.Common.{refl, subst}
 use Rattle.sql_grammar.specs.Terminals.{t_key}
 use Rattle.sql_grammar.specs.declared.class.Word.TheVariants.{Select}
-use Rattle.expr_reader.specs.Reading.{Begins, BeginsNot}
+use Rattle.expr_reader.specs.work.Reading.{Begins, BeginsNot}
 use Rattle.query_reader.proofs.PlaceLemmas.{begins-so, by-fault, by-groups, no-select}
 use Rattle.query_reader.proofs.select.select_fault.Goals as goal
 

@@ -1,5 +1,5 @@
 use Rattle.std.proofs.Common.{◌≡◌, ◌+◌, ◌≤◌, length}
-use Rattle.reply.specs.Drawing.{Draws}
+use Rattle.reply.specs.work.Drawing.{Draws}
 use Rattle.reply.proofs.pass.pass_over.Given as goal
 
 abbrev pub invariant-loop : goal.invariant-loop

@@ -1,4 +1,4 @@
-use Rattle.plan_tree.specs.Views.{path}
+use Rattle.plan_tree.specs.work.Views.{path}
 use Rattle.plan_tree.proofs.BoundLemmas.{lawful-rows}
 use Rattle.reply.proofs.PriceLemmas.{kept-whole, rows-are, rows-estimate}
 use Rattle.reply.proofs.price.best_price.Goals as goal

@@ -1,6 +1,6 @@
 use Rattle.std.proofs.Common.{◌∙◌, arith}
-use Rattle.plan_tree.specs.Views.{path}
-use Rattle.reply.specs.Settings.{world_of}
+use Rattle.plan_tree.specs.work.Views.{path}
+use Rattle.reply.specs.work.Settings.{world_of}
 use Rattle.reply.proofs.PuttingLemmas.{prefix-none}
 use Rattle.pg_base.proofs.OptionLemmas.{on-err as on_err}
 use Rattle.reply.proofs.ReplyLemmas.{answered_on, answering, answering_on}

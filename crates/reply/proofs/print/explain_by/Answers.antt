@@ -3,7 +3,7 @@ use Rattle.std.proofs.lemmas.Result.{on_ok_weaker, on_err_weaker}
 use Rattle.std.specs.Io.KnownBytes.{Appends}
 use Rattle.pg_base.specs.Writing.{AppendsPrefix}
 use Rattle.explain.specs.Texts.{explained_text}
-use Rattle.plan_tree.specs.Views.{path}
+use Rattle.plan_tree.specs.work.Views.{path}
 use Rattle.reply.proofs.PuttingLemmas.{prefix-none}
 use Rattle.pg_base.proofs.OptionLemmas.{on-err as on_err}
 use Rattle.reply.proofs.ReplyLemmas.{explained, explaining}

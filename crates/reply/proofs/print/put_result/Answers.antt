@@ -5,7 +5,7 @@ use Rattle.pg_base.specs.Writing.{AppendsPrefix}
 use Rattle.reply_text.specs.Texts.{count_line}
 use Rattle.sql_query.specs.Meaning.{windowed}
 use Rattle.reply.specs.Answers.{result_text, tuples_text}
-use Rattle.reply.specs.Settings.{world_of}
+use Rattle.reply.specs.work.Settings.{world_of}
 use Rattle.reply.proofs.PuttingLemmas.{prefix_part, put_prefix, line_put, line_cut, flushed, flush_stopped}
 use Rattle.pg_base.proofs.OptionLemmas.{on-err as on_err}
 use Rattle.reply.proofs.print.put_result.Goals as goal

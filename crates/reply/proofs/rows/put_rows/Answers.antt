@@ -1,8 +1,8 @@
 use Rattle.std.proofs.Common.{rules, refl, sym, subst, ◌∙◌, ℕ, arith}
-use Rattle.executor.specs.Numbers.{numbers}
-use Rattle.reply.specs.Drawing.{Draws}
+use Rattle.executor.specs.work.Numbers.{numbers}
+use Rattle.reply.specs.work.Drawing.{Draws}
 use Rattle.reply.specs.Effort.{limit_in}
-use Rattle.reply.specs.Settings.{world_of}
+use Rattle.reply.specs.work.Settings.{world_of}
 use Rattle.reply.proofs.DrawingLemmas.{drawn_more, drawn_none, drawn_stopped, line_stopped, looked_more, next_is, rest_are, some_left, within_more, within_none}
 use Rattle.reply.proofs.LimitLemmas.{draws_more, draws_none}
 use Rattle.reply.proofs.PuttingLemmas.{puts-stopped}

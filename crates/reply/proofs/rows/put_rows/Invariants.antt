@@ -1,8 +1,8 @@
 use Rattle.std.proofs.Common.{◌≡◌, All, length}
-use Rattle.executor.specs.Numbers.{IsTupleOf}
-use Rattle.reply.specs.Drawing.{Draws}
+use Rattle.executor.specs.work.Numbers.{IsTupleOf}
+use Rattle.reply.specs.work.Drawing.{Draws}
 use Rattle.reply.specs.Effort.{limit_in}
-use Rattle.reply.specs.Settings.{world_of}
+use Rattle.reply.specs.work.Settings.{world_of}
 use Rattle.reply.proofs.DrawingLemmas.{HasDrawn, IsWithin}
 use Rattle.reply.proofs.rows.put_rows.Given as goal
 

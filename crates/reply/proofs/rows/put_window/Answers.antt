@@ -1,6 +1,6 @@
 use Rattle.std.proofs.Common.{◌+◌, ℕ, List, subst}
 use Rattle.std.proofs.lemmas.Result.{on_ok_weaker}
-use Rattle.reply.specs.Drawing.{Draws, drawn_by}
+use Rattle.reply.specs.work.Drawing.{Draws, drawn_by}
 use Rattle.reply.specs.Effort.{limit_in, offset_in}
 use Rattle.reply.proofs.LimitLemmas.{draws_then, risen_by}
 use Rattle.sql_query.specs.Tuples.{Tuple}

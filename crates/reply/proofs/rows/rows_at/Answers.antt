@@ -2,8 +2,8 @@ use Rattle.std.proofs.Common.{◌∙◌, ap, arith}
 use Rattle.sql_query.specs.Queries.{Query}
 use Rattle.sql_query.specs.Tuples.{row_at}
 use Rattle.sql_query.specs.Worlds.{world}
-use Rattle.sort_rows.specs.Rows.{relation}
-use Rattle.executor.specs.Numbers.{numbers}
+use Rattle.sort_rows.specs.work.Rows.{relation}
+use Rattle.executor.specs.work.Numbers.{numbers}
 use Rattle.reply.proofs.RowLemmas.{row_lent, row_within, rows_more, stored_within}
 use Rattle.reply.proofs.rows.rows_at.Goals as goal
 

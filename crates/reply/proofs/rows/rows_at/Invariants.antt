@@ -1,9 +1,9 @@
 use Rattle.std.proofs.Common.{◌≡◌, ◌+◌, map}
 use Rattle.std.specs.List.{range_with_len}
-use Rattle.executor.specs.Numbers.{numbers}
-use Rattle.sort_rows.specs.Rows.{relation}
+use Rattle.executor.specs.work.Numbers.{numbers}
+use Rattle.sort_rows.specs.work.Rows.{relation}
 use Rattle.sql_query.specs.Tuples.{row_at}
-use Rattle.reply.specs.Settings.{world_of}
+use Rattle.reply.specs.work.Settings.{world_of}
 use Rattle.reply.proofs.rows.rows_at.Given as goal
 
 abbrev pub invariant-loop-n : goal.invariant-loop-n

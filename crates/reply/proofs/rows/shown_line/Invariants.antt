@@ -1,5 +1,5 @@
 use Rattle.std.proofs.Common.{◌≡◌, map, take}
-use Rattle.reply.specs.Showing.{cell_of}
+use Rattle.reply.specs.work.Showing.{cell_of}
 use Rattle.reply.proofs.rows.shown_line.Given as goal
 
 abbrev pub invariant-loop-column : goal.invariant-loop-column

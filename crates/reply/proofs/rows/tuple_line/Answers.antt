@@ -2,7 +2,7 @@ use Rattle.std.proofs.Common.{◌∙◌, ap, ◌≡◌, map, List, IfOk, subst}
 use Rattle.reply_text.specs.Texts.{row_line}
 use Rattle.pg_value.specs.declared.value.Value.{Value}
 use Rattle.sql_query.specs.Queries.{Query}
-use Rattle.executor.specs.Numbers.{numbers}
+use Rattle.executor.specs.work.Numbers.{numbers}
 use Rattle.reply.proofs.RowLemmas.{columns_there, now, shown_by}
 use Rattle.reply.proofs.rows.tuple_line.Goals as goal
 

@@ -1,6 +1,6 @@
 use Rattle.std.proofs.Common.{◌≡◌, ℕ, List, IfOk, sym, ap, ◌∙◌, subst}
 use Rattle.sql_query.specs.Queries.{Query}
-use Rattle.plan_tree.specs.Views.{path}
+use Rattle.plan_tree.specs.work.Views.{path}
 use Rattle.reply.proofs.PriceLemmas.{line-is}
 use Rattle.reply.proofs.shown.window_text.Goals as goal
 

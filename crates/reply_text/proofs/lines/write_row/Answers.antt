@@ -5,7 +5,7 @@ use Rattle.std.specs.Io.KnownBytes.{Appends}
 use Rattle.csv.specs.Writing.{has_written, is_blank, text_written}
 use Rattle.csv.proofs.WriteFacts.{appends-more, appends-none, blank-step, row-step}
 use Rattle.reply_text.specs.Texts.{field_text}
-use Rattle.reply_text.specs.Writers.{row_writer}
+use Rattle.reply_text.specs.work.Writers.{row_writer}
 use Rattle.reply_text.proofs.WriterLemmas.{field-is, row-kept}
 use Rattle.reply_text.proofs.lines.write_row.Goals as goal
 

@@ -2,7 +2,7 @@ use Rattle.std.proofs.Common.{◌≡◌, ◌==◌, ◌||◌, ◌&&◌, map, not,
 use Rattle.std.specs.Io.KnownBytes.{Appends}
 use Rattle.csv.specs.Writing.{fields_written, has_written, is_blank, row_body, text_written, writer_setup}
 use Rattle.reply_text.specs.Texts.{field_text}
-use Rattle.reply_text.specs.Writers.{row_writer}
+use Rattle.reply_text.specs.work.Writers.{row_writer}
 use Rattle.reply_text.proofs.lines.write_row.Given as goal
 
 abbrev pub invariant-loop-value : goal.invariant-loop-value

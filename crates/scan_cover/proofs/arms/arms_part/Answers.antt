@@ -1,9 +1,9 @@
 use Rattle.std.proofs.Common.{◌++◌, ◌∷◌, [], List, map, sym, subst, take_all}
 use Rattle.pg_base.specs.declared.numbers.IndexNo.{IndexNo}
-use Rattle.pg_expr.specs.View.{cond}
+use Rattle.pg_expr.specs.work.View.{cond}
 use Rattle.pg_expr.specs.declared.expr.Expr.{Expr}
 use Rattle.plan_tree.specs.Bitmaps.{MatchesArm}
-use Rattle.bitmap_scan.specs.Arms.{AreServed}
+use Rattle.bitmap_scan.specs.work.Arms.{AreServed}
 use Rattle.scan_cover.proofs.ArmLemmas.{served-next, served-none}
 use Rattle.scan_cover.proofs.arms.arms_part.Goals as goal
 

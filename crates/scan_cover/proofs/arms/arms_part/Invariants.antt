@@ -1,7 +1,7 @@
 use Rattle.std.proofs.Common.{List, map, take}
 use Rattle.pg_base.specs.declared.numbers.IndexNo.{IndexNo}
-use Rattle.pg_expr.specs.View.{cond}
-use Rattle.bitmap_scan.specs.Arms.{AreServed}
+use Rattle.pg_expr.specs.work.View.{cond}
+use Rattle.bitmap_scan.specs.work.Arms.{AreServed}
 use Rattle.scan_cover.proofs.arms.arms_part.Given as goal
 
 abbrev pub invariant-loop-n : goal.invariant-loop-n

@@ -1,10 +1,10 @@
 use Rattle.std.proofs.Common.{◌++◌, ◌∷◌, [], List, map, subst, sym, take_all}
 use Rattle.std.specs.List.{AllZip}
 use Rattle.pg_base.specs.declared.numbers.IndexNo.{IndexNo}
-use Rattle.pg_expr.specs.View.{cond}
+use Rattle.pg_expr.specs.work.View.{cond}
 use Rattle.pg_expr.specs.declared.expr.Expr.{Expr}
 use Rattle.plan_tree.specs.Bitmaps.{MatchesArm}
-use Rattle.bitmap_scan.specs.Arms.{IsLeastMatch}
+use Rattle.bitmap_scan.specs.work.Arms.{IsLeastMatch}
 use Rattle.scan_cover.proofs.ArmLemmas.{filled-next, filled-none, put-next}
 use Rattle.scan_cover.proofs.arms.put_least.Goals as goal
 

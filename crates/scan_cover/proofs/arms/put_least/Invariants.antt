@@ -1,9 +1,9 @@
 use Rattle.std.proofs.Common.{List, ◌++◌, map, take}
 use Rattle.std.specs.List.{AllZip}
 use Rattle.pg_base.specs.declared.numbers.IndexNo.{IndexNo}
-use Rattle.pg_expr.specs.View.{cond}
-use Rattle.bitmap_scan.specs.Arms.{IsLeastMatch}
-use Rattle.scan_cover.specs.Arms.{IsFilled}
+use Rattle.pg_expr.specs.work.View.{cond}
+use Rattle.bitmap_scan.specs.work.Arms.{IsLeastMatch}
+use Rattle.scan_cover.specs.work.Arms.{IsFilled}
 use Rattle.scan_cover.proofs.arms.put_least.Given as goal
 
 abbrev pub invariant-loop-n : goal.invariant-loop-n

@@ -1,7 +1,7 @@
 use Rattle.std.proofs.Common.{◌∙◌, ap, arith, length}
-use Rattle.plan_check.specs.Views.{certificate}
+use Rattle.plan_check.specs.work.Views.{certificate}
 use Rattle.pg_base.proofs.NumberLemmas.{each-below as below-next}
-use Rattle.scan_cover.specs.Trees.{AreRelationBitmapsServed}
+use Rattle.scan_cover.specs.work.Trees.{AreRelationBitmapsServed}
 use Rattle.scan_cover.proofs.ServedLemmas.{all-bitmaps}
 use Rattle.scan_cover.proofs.bitmap_relations.open_bitmap_scan.Goals as goal
 

@@ -1,6 +1,6 @@
 use Rattle.std.proofs.Common.{◌<◌, ℕ}
-use Rattle.plan_check.specs.Views.{certificate}
-use Rattle.scan_cover.specs.Trees.{AreRelationBitmapsServed}
+use Rattle.plan_check.specs.work.Views.{certificate}
+use Rattle.scan_cover.specs.work.Trees.{AreRelationBitmapsServed}
 use Rattle.scan_cover.proofs.bitmap_relations.open_bitmap_scan.Given as goal
 
 abbrev pub invariant-loop-r : goal.invariant-loop-r

@@ -1,6 +1,6 @@
 use Rattle.std.proofs.Common.{◌≤◌, ◌∙◌, List, length, subst, sym}
 use Rattle.bitmap_scan.proofs.ElementLemmas.{elements-made}
-use Rattle.scan_cover.specs.Trees.{AreFirst, AreKept}
+use Rattle.scan_cover.specs.work.Trees.{AreFirst, AreKept}
 use Rattle.scan_cover.specs.declared.kept.Kept.{Kept}
 use Rattle.scan_cover.proofs.KeptLemmas.{are-first, kept-few}
 use Rattle.scan_cover.proofs.bitmap_relations.open_given.Goals as goal

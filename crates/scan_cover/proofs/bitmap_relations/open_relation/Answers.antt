@@ -1,7 +1,7 @@
 use Rattle.std.proofs.Common.{arith}
-use Rattle.plan_check.specs.Views.{certificate}
+use Rattle.plan_check.specs.work.Views.{certificate}
 use Rattle.pg_base.proofs.NumberLemmas.{each-below as below-next}
-use Rattle.scan_cover.specs.Trees.{AreBitmapsServed}
+use Rattle.scan_cover.specs.work.Trees.{AreBitmapsServed}
 use Rattle.scan_cover.proofs.ServedLemmas.{relation-bitmaps}
 use Rattle.scan_cover.proofs.bitmap_relations.open_relation.Goals as goal
 

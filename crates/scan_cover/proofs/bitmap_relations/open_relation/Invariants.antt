@@ -1,6 +1,6 @@
 use Rattle.std.proofs.Common.{◌<◌, ℕ}
-use Rattle.plan_check.specs.Views.{certificate}
-use Rattle.scan_cover.specs.Trees.{AreBitmapsServed}
+use Rattle.plan_check.specs.work.Views.{certificate}
+use Rattle.scan_cover.specs.work.Trees.{AreBitmapsServed}
 use Rattle.scan_cover.proofs.bitmap_relations.open_relation.Given as goal
 
 abbrev pub invariant-loop-bits : goal.invariant-loop-bits

@@ -1,7 +1,7 @@
 use Rattle.std.proofs.Common.{◌∙◌, ◌+◌, List, ap, length, map, subst, sym, take_all}
-use Rattle.plan_tree.specs.Views.{element}
+use Rattle.plan_tree.specs.work.Views.{element}
 use Rattle.plan_tree.specs.declared.elements.Element.{Element as Chosen}
-use Rattle.scan_cover.specs.Trees.{AreKept, element_in}
+use Rattle.scan_cover.specs.work.Trees.{AreKept, element_in}
 use Rattle.scan_cover.proofs.KeptLemmas.{elements-push, kept-push, none-kept}
 use Rattle.scan_cover.proofs.elements.keep_all.Goals as goal
 

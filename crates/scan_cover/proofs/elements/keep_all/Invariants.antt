@@ -1,6 +1,6 @@
 use Rattle.std.proofs.Common.{◌≡◌, length, map, take}
-use Rattle.plan_tree.specs.Views.{element}
-use Rattle.scan_cover.specs.Trees.{AreKept, element_in}
+use Rattle.plan_tree.specs.work.Views.{element}
+use Rattle.scan_cover.specs.work.Trees.{AreKept, element_in}
 use Rattle.scan_cover.proofs.elements.keep_all.Given as goal
 
 -- the elements before the place are kept

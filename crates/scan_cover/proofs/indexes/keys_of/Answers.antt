@@ -1,6 +1,6 @@
 use Rattle.std.proofs.Common.{◌+◌, ◌∙◌, ap}
 use Rattle.std.specs.Prelude.{slice_get}
-use Rattle.pathkeys.specs.Finding.{class_numbers}
+use Rattle.pathkeys.specs.work.Finding.{class_numbers}
 use Rattle.pathkeys.specs.Keys.{Keys}
 use Rattle.plan_tree.specs.Keys.{keys_of}
 use Rattle.join_cover.specs.plan_space_OrderLemmas.{keys-end, keys-more}

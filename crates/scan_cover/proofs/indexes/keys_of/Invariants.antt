@@ -1,5 +1,5 @@
 use Rattle.std.proofs.Common.{◌≡◌, length, take}
-use Rattle.pathkeys.specs.Finding.{class_numbers}
+use Rattle.pathkeys.specs.work.Finding.{class_numbers}
 use Rattle.plan_tree.specs.Keys.{keys_of}
 use Rattle.join_cover.specs.entry_check_Owning.{tree_of}
 use Rattle.scan_cover.proofs.indexes.keys_of.Given as goal

@@ -1,4 +1,4 @@
-use Rattle.plan_check.specs.Views.{certificate}
+use Rattle.plan_check.specs.work.Views.{certificate}
 use Rattle.scan_cover.proofs.WalkLemmas.{four-ways}
 use Rattle.scan_cover.proofs.indexes.open_by_index.Goals as goal
 

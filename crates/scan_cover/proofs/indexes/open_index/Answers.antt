@@ -1,10 +1,10 @@
 use Rattle.std.proofs.Common.{◌∙◌, ap, refl, sym}
 use Rattle.std.proofs.lemmas.Bool.{false≢true}
-use Rattle.pathkeys.specs.Finding.{class_numbers}
-use Rattle.cost_rules.specs.Costs.{capped_pair}
+use Rattle.pathkeys.specs.work.Finding.{class_numbers}
+use Rattle.cost_rules.specs.work.Costs.{capped_pair}
 use Rattle.cost_rules.specs.declared.pair.Pair.{Pair}
 use Rattle.plan_tree.specs.Costs.{scan_cost}
-use Rattle.plan_tree.specs.Paths.{kept_cost}
+use Rattle.plan_tree.specs.work.Paths.{kept_cost}
 use Rattle.plan_tree.proofs.BoundLemmas.{lawful-rows}
 use Rattle.plan_check.specs.declared.verdict.Plain.TheVariants as plain
 use Rattle.join_cover.specs.entry_check_Owning.{tree_of}

@@ -1,6 +1,6 @@
 use Rattle.std.proofs.Common.{◌%◌, ◌&&◌, ◌||◌, ◌∙◌, ◌++◌, ◌∷◌, [], Bool, List, ap, cond, get_or, nat_eq, refl, sym}
 use Rattle.std.specs.List.{list_any}
-use Rattle.pg_expr.specs.AtomSets.{contains}
+use Rattle.pg_expr.specs.work.AtomSets.{contains}
 use Rattle.scan_cover.specs.declared.kept.Kept.{Kept}
 use Rattle.scan_cover.proofs.MarkLemmas.{any-more, split-all, split-next, split-none}
 use Rattle.scan_cover.proofs.marks.is_used.Goals as goal

@@ -1,5 +1,5 @@
 use Rattle.std.proofs.Common.{◌≡◌, List, length, map}
-use Rattle.cost_rules.specs.Costs.{capped}
+use Rattle.cost_rules.specs.work.Costs.{capped}
 use Rattle.plan_tree.specs.Costs.{together}
 use Rattle.scan_cover.specs.declared.kept.Kept.{Kept}
 use Rattle.scan_cover.proofs.MarkLemmas.{IsSplit}

@@ -1,7 +1,7 @@
 use Rattle.std.proofs.Common.{◌≡◌, ◌&&◌, ℕ, nat_lt}
 use Rattle.std.specs.List.{list_any}
-use Rattle.pg_expr.specs.AtomSets.{contains}
-use Rattle.bitmap_scan.specs.Chosen.{marked}
+use Rattle.pg_expr.specs.work.AtomSets.{contains}
+use Rattle.bitmap_scan.specs.work.Chosen.{marked}
 use Rattle.scan_cover.proofs.marks.used_by.Given as goal
 
 abbrev pub invariant-loop-n : goal.invariant-loop-n

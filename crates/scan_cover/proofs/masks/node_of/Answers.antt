@@ -1,6 +1,6 @@
 use Rattle.std.proofs.Common.{[], refl}
 use Rattle.scan_cover.proofs.FillLemmas.{filled-all}
-use Rattle.scan_cover.specs.Limits.{arms_of_all}
+use Rattle.scan_cover.specs.work.Limits.{arms_of_all}
 use Rattle.scan_cover.proofs.KeptLemmas.{arms-few, first-made}
 use Rattle.scan_cover.proofs.ServedLemmas.{stands-for}
 use Rattle.scan_cover.proofs.masks.node_of.Goals as goal

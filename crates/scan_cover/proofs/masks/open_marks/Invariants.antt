@@ -1,6 +1,6 @@
 use Rattle.std.proofs.Common.{◌<◌, ℕ}
-use Rattle.plan_check.specs.Views.{certificate}
-use Rattle.scan_cover.specs.Trees.{IsMarkServed}
+use Rattle.plan_check.specs.work.Views.{certificate}
+use Rattle.scan_cover.specs.work.Trees.{IsMarkServed}
 use Rattle.scan_cover.proofs.masks.open_marks.Given as goal
 
 abbrev pub invariant-loop-mask : goal.invariant-loop-mask

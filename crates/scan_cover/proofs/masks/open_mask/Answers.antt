@@ -1,16 +1,16 @@
 use Rattle.std.proofs.Common.{◌∙◌, List, sym, true≢false}
 use Rattle.std.specs.List.{AllZip}
 use Rattle.pg_base.specs.Sets.{has}
-use Rattle.pg_expr.specs.AtomSets.{contains}
-use Rattle.cost_rules.specs.Costs.{capped_pair}
+use Rattle.pg_expr.specs.work.AtomSets.{contains}
+use Rattle.cost_rules.specs.work.Costs.{capped_pair}
 use Rattle.path_cost.specs.Costs.{bitmap_cost}
 use Rattle.plan_tree.specs.Plans.{BitTree, bitmap}
 use Rattle.plan_tree.proofs.BoundLemmas.{lawful-rows}
-use Rattle.plan_check.specs.Views.{certificate}
-use Rattle.bitmap_scan.specs.Chosen.{combined, marked}
+use Rattle.plan_check.specs.work.Views.{certificate}
+use Rattle.bitmap_scan.specs.work.Chosen.{combined, marked}
 use Rattle.bitmap_scan.proofs.ScanLemmas.{named-to}
 use Rattle.scan_cover.proofs.ToldLemmas.{if-none-weaker, if-some-weaker}
-use Rattle.scan_cover.specs.Trees.{IsKept}
+use Rattle.scan_cover.specs.work.Trees.{IsKept}
 use Rattle.scan_cover.proofs.KeptLemmas.{mark-plan, mark-priced, mark-used}
 use Rattle.scan_cover.proofs.ServedLemmas.{bitmap-with, none-marked}
 use Rattle.scan_cover.proofs.masks.open_mask.Goals as goal

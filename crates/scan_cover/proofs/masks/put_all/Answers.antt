@@ -2,11 +2,11 @@ use Rattle.std.proofs.Common.{◌%◌, ◌++◌, ◌∷◌, [], List, cond, get_
 use Rattle.std.specs.List.{AllZip}
 use Rattle.pg_base.specs.declared.numbers.IndexNo.{IndexNo}
 use Rattle.plan_tree.specs.Plans.{BitTree}
-use Rattle.bitmap_scan.specs.ElementTrees.{IsMade}
-use Rattle.scan_cover.specs.Arms.{IsFilled}
-use Rattle.scan_cover.specs.Trees.{IsKept, element_in}
+use Rattle.bitmap_scan.specs.work.ElementTrees.{IsMade}
+use Rattle.scan_cover.specs.work.Arms.{IsFilled}
+use Rattle.scan_cover.specs.work.Trees.{IsKept, element_in}
 use Rattle.scan_cover.specs.declared.kept.Kept.{Kept}
-use Rattle.scan_cover.specs.Limits.{arms_of_all}
+use Rattle.scan_cover.specs.work.Limits.{arms_of_all}
 use Rattle.scan_cover.proofs.ArmLemmas.{filled-both, filled-none}
 use Rattle.scan_cover.proofs.KeptLemmas.{arms-joined, kept-at}
 use Rattle.scan_cover.proofs.MarkLemmas.{split-all, split-next, split-none, zip-joined}

@@ -2,9 +2,9 @@ use Rattle.std.proofs.Common.{List, ◌++◌}
 use Rattle.std.specs.List.{AllZip}
 use Rattle.pg_base.specs.declared.numbers.IndexNo.{IndexNo}
 use Rattle.plan_tree.specs.Plans.{BitTree}
-use Rattle.scan_cover.specs.Arms.{IsFilled}
-use Rattle.scan_cover.specs.Trees.{IsKept}
-use Rattle.scan_cover.specs.Limits.{arms_of_all}
+use Rattle.scan_cover.specs.work.Arms.{IsFilled}
+use Rattle.scan_cover.specs.work.Trees.{IsKept}
+use Rattle.scan_cover.specs.work.Limits.{arms_of_all}
 use Rattle.scan_cover.specs.declared.kept.Kept.{Kept}
 use Rattle.scan_cover.proofs.MarkLemmas.{IsSplit}
 use Rattle.scan_cover.proofs.masks.put_all.Given as goal

@@ -2,12 +2,12 @@ use Rattle.std.proofs.Common.{◌∙◌, ap, map}
 use Rattle.std.proofs.lemmas.List.Elements.{All-from_recursion}
 use Rattle.pg_base.specs.declared.numbers.IndexNo.{IndexNo}
 use Rattle.pg_expr.specs.Cond.{Cond}
-use Rattle.pg_expr.specs.View.{cond}
+use Rattle.pg_expr.specs.work.View.{cond}
 use Rattle.index_match.specs.Arms.{arms_of}
 use Rattle.eq_classes.proofs.ConditionLemmas.{listed_conds}
 use Rattle.plan_tree.specs.Bitmaps.{MatchesArm, condition_at}
 use Rattle.plan_tree.specs.Plans.{some_arm}
-use Rattle.plan_tree.specs.Views.{element}
+use Rattle.plan_tree.specs.work.Views.{element}
 use Rattle.plan_tree.proofs.ElementLemmas.{matched-or}
 use Rattle.plan_tree.proofs.FrontLemmas.{all-sources}
 use Rattle.scan_cover.proofs.KeptLemmas.{put-clause}

@@ -1,5 +1,5 @@
 use Rattle.std.proofs.Common.{ap}
-use Rattle.plan_tree.specs.Views.{element}
+use Rattle.plan_tree.specs.work.Views.{element}
 use Rattle.scan_cover.proofs.KeptLemmas.{put-index}
 use Rattle.scan_cover.proofs.masks.put_element.Goals as goal
 

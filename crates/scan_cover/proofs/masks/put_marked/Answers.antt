@@ -1,6 +1,6 @@
 use Rattle.std.proofs.Common.{Bool, [], ◌∷◌, cond, subst, sym}
 use Rattle.std.specs.List.{AllZip}
-use Rattle.scan_cover.specs.Trees.{IsKept}
+use Rattle.scan_cover.specs.work.Trees.{IsKept}
 use Rattle.scan_cover.proofs.KeptLemmas.{put-one}
 use Rattle.scan_cover.proofs.masks.put_marked.Goals as goal
 

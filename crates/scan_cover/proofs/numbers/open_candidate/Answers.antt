@@ -1,5 +1,5 @@
 use Rattle.std.proofs.Common.{refl}
-use Rattle.plan_check.specs.Views.{certificate}
+use Rattle.plan_check.specs.work.Views.{certificate}
 use Rattle.join_cover.proofs.MergeLemmas.{placed-read}
 use Rattle.scan_cover.proofs.numbers.open_candidate.Goals as goal
 

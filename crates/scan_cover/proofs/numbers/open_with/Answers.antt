@@ -1,5 +1,5 @@
-use Rattle.pathkeys.specs.Finding.{class_numbers}
-use Rattle.plan_check.specs.Views.{certificate}
+use Rattle.pathkeys.specs.work.Finding.{class_numbers}
+use Rattle.plan_check.specs.work.Views.{certificate}
 use Rattle.scan_cover.proofs.ToldLemmas.{told-none, told-open}
 use Rattle.scan_cover.proofs.numbers.open_with.Goals as goal
 

@@ -1,8 +1,8 @@
 use Rattle.std.proofs.Common.{subst, take_all}
 use Rattle.std.specs.Prelude.{All}
 use Rattle.std.proofs.lemmas.List.Elements.{All-more}
-use Rattle.plan_check.specs.Views.{certificate}
-use Rattle.scan_cover.specs.Scanning.{IsIndexServed}
+use Rattle.plan_check.specs.work.Views.{certificate}
+use Rattle.scan_cover.specs.work.Scanning.{IsIndexServed}
 use Rattle.scan_cover.proofs.WalkLemmas.{all-indexes}
 use Rattle.scan_cover.proofs.relations.open_given.Goals as goal
 

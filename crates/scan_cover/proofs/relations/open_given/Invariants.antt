@@ -1,7 +1,7 @@
 use Rattle.std.proofs.Common.{take}
 use Rattle.std.specs.Prelude.{All}
-use Rattle.plan_check.specs.Views.{certificate}
-use Rattle.scan_cover.specs.Scanning.{IsIndexServed}
+use Rattle.plan_check.specs.work.Views.{certificate}
+use Rattle.scan_cover.specs.work.Scanning.{IsIndexServed}
 use Rattle.scan_cover.proofs.relations.open_given.Given as goal
 
 abbrev pub invariant-loop-i : goal.invariant-loop-i

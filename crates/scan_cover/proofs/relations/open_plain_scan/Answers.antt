@@ -1,6 +1,6 @@
 use Rattle.std.proofs.Common.{◌∙◌, ap, arith, length}
-use Rattle.plan_check.specs.Views.{certificate}
-use Rattle.scan_cover.specs.Scanning.{IsRelationServed}
+use Rattle.plan_check.specs.work.Views.{certificate}
+use Rattle.scan_cover.specs.work.Scanning.{IsRelationServed}
 use Rattle.scan_cover.proofs.WalkLemmas.{plain-served}
 use Rattle.pg_base.proofs.NumberLemmas.{each-below as below-next}
 use Rattle.scan_cover.proofs.relations.open_plain_scan.Goals as goal

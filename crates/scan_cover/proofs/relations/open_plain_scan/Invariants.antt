@@ -1,6 +1,6 @@
 use Rattle.std.proofs.Common.{◌<◌, ℕ}
-use Rattle.plan_check.specs.Views.{certificate}
-use Rattle.scan_cover.specs.Scanning.{IsRelationServed}
+use Rattle.plan_check.specs.work.Views.{certificate}
+use Rattle.scan_cover.specs.work.Scanning.{IsRelationServed}
 use Rattle.scan_cover.proofs.relations.open_plain_scan.Given as goal
 
 abbrev pub invariant-loop-r : goal.invariant-loop-r

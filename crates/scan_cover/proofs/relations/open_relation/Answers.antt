@@ -1,7 +1,7 @@
 use Rattle.std.proofs.Common.{arith}
 use Rattle.pg_base.specs.declared.numbers.IndexNo.{IndexNo}
-use Rattle.plan_check.specs.Views.{certificate}
-use Rattle.scan_cover.specs.Scanning.{IsIndexServed}
+use Rattle.plan_check.specs.work.Views.{certificate}
+use Rattle.scan_cover.specs.work.Scanning.{IsIndexServed}
 use Rattle.scan_cover.proofs.WalkLemmas.{relation-served}
 use Rattle.pg_base.proofs.NumberLemmas.{each-below as below-next}
 use Rattle.scan_cover.proofs.relations.open_relation.Goals as goal

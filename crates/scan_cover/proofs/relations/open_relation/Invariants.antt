@@ -1,7 +1,7 @@
 use Rattle.std.proofs.Common.{◌<◌, ℕ}
 use Rattle.pg_base.specs.declared.numbers.IndexNo.{IndexNo}
-use Rattle.plan_check.specs.Views.{certificate}
-use Rattle.scan_cover.specs.Scanning.{IsIndexServed}
+use Rattle.plan_check.specs.work.Views.{certificate}
+use Rattle.scan_cover.specs.work.Scanning.{IsIndexServed}
 use Rattle.scan_cover.proofs.relations.open_relation.Given as goal
 
 abbrev pub invariant-loop-bits : goal.invariant-loop-bits

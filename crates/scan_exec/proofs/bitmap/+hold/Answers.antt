@@ -1,6 +1,6 @@
 use Rattle.std.proofs.Common.{refl}
-use Rattle.plan_tree.specs.Views.{bits_all}
-use Rattle.scan_exec.specs.Scene.{tuple_of, world_of}
+use Rattle.plan_tree.specs.work.Views.{bits_all}
+use Rattle.scan_exec.specs.work.Scene.{tuple_of, world_of}
 use Rattle.scan_exec.proofs.SetLemmas.{met_first, met_next, trees_behind, trees_met}
 use Rattle.scan_exec.proofs.bitmap.+hold.Goals as goal
 

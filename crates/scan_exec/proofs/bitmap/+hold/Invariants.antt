@@ -1,7 +1,7 @@
 use Rattle.std.proofs.Common.{drop}
-use Rattle.plan_tree.specs.Views.{bits_all}
-use Rattle.scan_exec.specs.Held.{AreHeldTrees}
-use Rattle.scan_exec.specs.Scene.{tuple_of, world_of}
+use Rattle.plan_tree.specs.work.Views.{bits_all}
+use Rattle.scan_exec.specs.work.Held.{AreHeldTrees}
+use Rattle.scan_exec.specs.work.Scene.{tuple_of, world_of}
 use Rattle.scan_exec.proofs.SetLemmas.{IsMeeting}
 use Rattle.scan_exec.proofs.bitmap.+hold.Given as goal
 

@@ -1,6 +1,6 @@
 use Rattle.std.proofs.Common.{◌∙◌}
-use Rattle.plan_tree.specs.Views.{bits}
-use Rattle.scan_probes.specs.Filters.{lent_conditions}
+use Rattle.plan_tree.specs.work.Views.{bits}
+use Rattle.scan_probes.specs.work.Filters.{lent_conditions}
 use Rattle.scan_exec.proofs.BitsLemmas.{bits_begun, bits_bound, bits_ready}
 use Rattle.scan_exec.proofs.TreeLemmas.{tree_held}
 use Rattle.scan_exec.proofs.bitmap.bit_rows.Goals as goal

@@ -2,12 +2,12 @@ use Rattle.std.proofs.Common.{List, ◌≤◌, ◌+◌, ◌∙◌, ap, length, m
 use Rattle.std.specs.List.{AllZip}
 use Rattle.pg_base.specs.Sets.{has}
 use Rattle.pg_expr.specs.Cond.{Cond}
-use Rattle.pg_expr.specs.View.{cond}
+use Rattle.pg_expr.specs.work.View.{cond}
 use Rattle.plan_tree.specs.Bitmaps.{MatchesArm, condition_at}
 use Rattle.plan_tree.proofs.PricingLemmas.{arms-found}
 use Rattle.plan_tree.specs.Counts.{arm_looks}
-use Rattle.scan_exec.specs.Held.{IsMade}
-use Rattle.scan_exec.specs.Scene.{tuple_of, world_of}
+use Rattle.scan_exec.specs.work.Held.{IsMade}
+use Rattle.scan_exec.specs.work.Scene.{tuple_of, world_of}
 use Rattle.scan_exec.proofs.HeldLemmas.{made_empty}
 use Rattle.scan_exec.proofs.SetLemmas.{arms_are, no_arms_are}
 use Rattle.scan_exec.proofs.TreeLemmas.{near_arms}

@@ -1,7 +1,7 @@
 use Rattle.std.proofs.Common.{ap, length, subst, sym, ◌∙◌}
-use Rattle.scan_probes.specs.Filters.{lent_conditions}
-use Rattle.scan_exec.specs.Held.{IsMade}
-use Rattle.scan_exec.specs.Scene.{AreUsed, tuple_of, world_of}
+use Rattle.scan_probes.specs.work.Filters.{lent_conditions}
+use Rattle.scan_exec.specs.work.Held.{IsMade}
+use Rattle.scan_exec.specs.work.Scene.{AreUsed, tuple_of, world_of}
 use Rattle.scan_exec.proofs.HeldLemmas.{made_empty}
 use Rattle.scan_exec.proofs.NearLemmas.{all_used}
 use Rattle.scan_exec.proofs.SetLemmas.{leaf_is, leaf_looks}

@@ -1,8 +1,8 @@
 use Rattle.std.proofs.Common.{ap, sym, ◌∙◌}
 use Rattle.catalog.specs.Contents.{index_at}
 use Rattle.sql_query.specs.Tuples.{rows_of_relation}
-use Rattle.store.specs.View.{built}
-use Rattle.scan_exec.specs.Scene.{world_of}
+use Rattle.store.specs.work.View.{built}
+use Rattle.scan_exec.specs.work.Scene.{world_of}
 use Rattle.scan_exec.proofs.EqualLemmas.{is_hashed}
 use Rattle.scan_exec.proofs.MarkLemmas.{takes_one}
 use Rattle.scan_exec.proofs.SeekLemmas.{built_is, is_btree}

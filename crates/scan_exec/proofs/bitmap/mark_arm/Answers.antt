@@ -2,14 +2,14 @@ use Rattle.std.proofs.Common.{List, ◌≤◌, ◌+◌, ap, subst, sym, ◌∙�
 use Rattle.std.proofs.lemmas.Result.{on_ok_weaker}
 use Rattle.pg_base.specs.Sets.{has}
 use Rattle.pg_expr.specs.Cond.{Cond}
-use Rattle.pg_expr.specs.View.{cond}
+use Rattle.pg_expr.specs.work.View.{cond}
 use Rattle.catalog.specs.Contents.{index_at}
 use Rattle.plan_tree.specs.Counts.{entries_met}
 use Rattle.plan_tree.specs.Entries.{entry_rows}
 use Rattle.plan_tree.specs.Run.{at_which}
-use Rattle.scan_probes.specs.Filters.{lent_conditions}
-use Rattle.scan_exec.specs.Held.{with_rows}
-use Rattle.scan_exec.specs.Scene.{AreUsed, limits, tuple_of, world_of}
+use Rattle.scan_probes.specs.work.Filters.{lent_conditions}
+use Rattle.scan_exec.specs.work.Held.{with_rows}
+use Rattle.scan_exec.specs.work.Scene.{AreUsed, limits, tuple_of, world_of}
 use Rattle.scan_exec.proofs.MarkLemmas.{arm_taken}
 use Rattle.scan_exec.proofs.TreeLemmas.{arm_used}
 use Rattle.scan_exec.proofs.bitmap.mark_arm.Goals as goal

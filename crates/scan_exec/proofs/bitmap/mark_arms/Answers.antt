@@ -1,10 +1,10 @@
 use Rattle.std.proofs.Common.{slice_index_or, subst, sym}
 use Rattle.pg_base.specs.declared.numbers.IndexNo.{IndexNo}
 use Rattle.pg_expr.specs.declared.expr.Expr.{Expr}
-use Rattle.pg_expr.specs.View.{cond}
+use Rattle.pg_expr.specs.work.View.{cond}
 use Rattle.plan_tree.specs.Bitmaps.{MatchesArm}
 use Rattle.plan_tree.proofs.PricingLemmas.{zip-at, zip-within}
-use Rattle.scan_exec.specs.Scene.{tuple_of, world_of}
+use Rattle.scan_exec.specs.work.Scene.{tuple_of, world_of}
 use Rattle.scan_exec.proofs.SetLemmas.{arm_on, arm_stops}
 use Rattle.scan_exec.proofs.bitmap.mark_arms.Goals as goal
 

@@ -1,6 +1,6 @@
 use Rattle.std.proofs.Common.{drop, map}
-use Rattle.pg_expr.specs.View.{cond}
-use Rattle.scan_exec.specs.Scene.{tuple_of, world_of}
+use Rattle.pg_expr.specs.work.View.{cond}
+use Rattle.scan_exec.specs.work.Scene.{tuple_of, world_of}
 use Rattle.scan_exec.proofs.SetLemmas.{IsMarkingArms}
 use Rattle.scan_exec.proofs.bitmap.mark_arms.Given as goal
 

@@ -1,6 +1,6 @@
 use Rattle.std.proofs.Common.{ap, sym, ◌∙◌}
-use Rattle.catalog.specs.Entries.{index_of}
-use Rattle.scan_probes.specs.Filters.{lent_conditions}
+use Rattle.catalog.specs.work.Entries.{index_of}
+use Rattle.scan_probes.specs.work.Filters.{lent_conditions}
 use Rattle.scan_exec.proofs.HeldLemmas.{added, entry_fails, entry_passes, first_ready}
 use Rattle.scan_exec.proofs.bitmap.mark_entries.Goals as goal
 

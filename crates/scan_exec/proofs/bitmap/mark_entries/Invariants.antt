@@ -1,6 +1,6 @@
 use Rattle.std.proofs.Common.{length}
-use Rattle.catalog.specs.Entries.{index_of}
-use Rattle.scan_probes.specs.Filters.{lent_conditions}
+use Rattle.catalog.specs.work.Entries.{index_of}
+use Rattle.scan_probes.specs.work.Filters.{lent_conditions}
 use Rattle.scan_exec.proofs.HeldLemmas.{IsMarkingBy}
 use Rattle.scan_exec.proofs.bitmap.mark_entries.Given as goal
 

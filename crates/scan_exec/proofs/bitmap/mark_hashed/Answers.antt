@@ -1,11 +1,11 @@
 use Rattle.std.proofs.Common.{List, [], ◌∷◌, ◌∙◌, ap, sym}
 use Rattle.pg_base.specs.Sets.{has}
 use Rattle.pg_expr.specs.Cond.{Cond}
-use Rattle.pg_expr.specs.View.{cond}
+use Rattle.pg_expr.specs.work.View.{cond}
 use Rattle.plan_tree.specs.Entries.{entry_rows}
 use Rattle.plan_tree.specs.Run.{at_which}
-use Rattle.scan_exec.specs.Held.{with_rows}
-use Rattle.scan_exec.specs.Scene.{IsUsed, tuple_of, world_of}
+use Rattle.scan_exec.specs.work.Held.{with_rows}
+use Rattle.scan_exec.specs.work.Scene.{IsUsed, tuple_of, world_of}
 use Rattle.scan_exec.proofs.MarkLemmas.{first_used, only_one, tids_within}
 use Rattle.scan_exec.proofs.bitmap.mark_hashed.Goals as goal
 

@@ -1,5 +1,5 @@
-use Rattle.catalog.specs.Entries.{index_of}
-use Rattle.scan_probes.specs.Filters.{lent_conditions}
+use Rattle.catalog.specs.work.Entries.{index_of}
+use Rattle.scan_probes.specs.work.Filters.{lent_conditions}
 use Rattle.scan_exec.proofs.MarkLemmas.{mark_looks, marked, marks_ready}
 use Rattle.scan_exec.proofs.bitmap.mark_sorted.Goals as goal
 

@@ -1,13 +1,13 @@
 use Rattle.std.proofs.Common.{◌+◌, ◌∙◌, ap, arith, length, option_map, refl, sym}
 use Rattle.pg_base.specs.Sets.{has}
 use Rattle.pg_base.specs.declared.numbers.Tid.{Tid}
-use Rattle.heap.specs.Tuples.{padded}
+use Rattle.heap.specs.work.Tuples.{padded}
 use Rattle.sql_query.specs.Queries.{width}
 use Rattle.sql_query.specs.Worlds.{world}
 use Rattle.plan_tree.specs.Counts.{fetches, looks}
 use Rattle.plan_tree.specs.Run.{run}
-use Rattle.plan_tree.specs.Views.{plan}
-use Rattle.scan_exec.specs.Plans.{param_set, relation_of}
+use Rattle.plan_tree.specs.work.Views.{plan}
+use Rattle.scan_exec.specs.work.Plans.{param_set, relation_of}
 use Rattle.scan_exec.proofs.DrainLemmas.{behind_short, drain_begins, drain_on, drained, drained_exact, no_tuples, one_long, rows_owed, rows_run, set_one}
 use Rattle.scan_exec.proofs.KindLemmas.{relation_below}
 use Rattle.scan_exec.proofs.drain.scan.Goals as goal

@@ -1,12 +1,12 @@
 use Rattle.std.proofs.Common.{◌+◌, length}
 use Rattle.pg_base.specs.Sets.{has}
-use Rattle.heap.specs.Tuples.{padded}
+use Rattle.heap.specs.work.Tuples.{padded}
 use Rattle.sql_query.specs.Queries.{width}
 use Rattle.sql_query.specs.Worlds.{world}
 use Rattle.plan_tree.specs.Counts.{fetches, looks}
 use Rattle.plan_tree.specs.Run.{run}
-use Rattle.plan_tree.specs.Views.{plan}
-use Rattle.scan_exec.specs.Plans.{param_set, relation_of}
+use Rattle.plan_tree.specs.work.Views.{plan}
+use Rattle.scan_exec.specs.work.Plans.{param_set, relation_of}
 use Rattle.scan_exec.proofs.DrainLemmas.{IsDraining}
 use Rattle.scan_exec.proofs.drain.scan.Given as goal
 

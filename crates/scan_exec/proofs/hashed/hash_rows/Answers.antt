@@ -1,9 +1,9 @@
 use Rattle.std.proofs.Common.{[], ◌∷◌, ◌∙◌, map}
 use Rattle.catalog.specs.Contents.{index_at}
-use Rattle.pg_expr.specs.View.{cond}
-use Rattle.scan_probes.specs.Filters.{lent_conditions}
+use Rattle.pg_expr.specs.work.View.{cond}
+use Rattle.scan_probes.specs.work.Filters.{lent_conditions}
 use Rattle.sql_query.specs.Tuples.{rows_of_relation}
-use Rattle.scan_exec.specs.Scene.{world_of}
+use Rattle.scan_exec.specs.work.Scene.{world_of}
 use Rattle.scan_exec.proofs.EqualLemmas.{first_in, hash_begins, hash_begun, hash_condition, is_hashed}
 use Rattle.scan_exec.proofs.NearLemmas.{used}
 use Rattle.scan_exec.proofs.hashed.hash_rows.Goals as goal

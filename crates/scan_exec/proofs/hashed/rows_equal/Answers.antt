@@ -1,9 +1,9 @@
 use Rattle.std.proofs.Common.{◌∙◌, ap}
 use Rattle.catalog.specs.Contents.{index_at}
 use Rattle.catalog.specs.Indexes.{Index}
-use Rattle.pg_expr.specs.View.{cond}
+use Rattle.pg_expr.specs.work.View.{cond}
 use Rattle.sql_query.specs.Tuples.{rows_of_relation}
-use Rattle.scan_exec.specs.Scene.{world_of}
+use Rattle.scan_exec.specs.work.Scene.{world_of}
 use Rattle.scan_exec.proofs.EqualLemmas.{first_of, form_of, is_hashed, table_rows, value_fits_table, value_known}
 use Rattle.scan_exec.proofs.hashed.rows_equal.Goals as goal
 

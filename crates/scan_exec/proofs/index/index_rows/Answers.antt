@@ -1,13 +1,13 @@
 use Rattle.std.proofs.Common.{List, ap, filter, sym, subst, ◌∙◌}
-use Rattle.btree_index.specs.Tree.{in_direction}
+use Rattle.btree_index.specs.work.Tree.{in_direction}
 use Rattle.catalog.specs.Contents.{index_at}
-use Rattle.catalog.specs.Entries.{index_of}
+use Rattle.catalog.specs.work.Entries.{index_of}
 use Rattle.pg_expr.specs.Cond.{Cond}
-use Rattle.scan_probes.specs.Filters.{lent_conditions}
+use Rattle.scan_probes.specs.work.Filters.{lent_conditions}
 use Rattle.sql_query.specs.Meaning.{all_true}
 use Rattle.sql_query.specs.Tuples.{beside}
 use Rattle.plan_tree.specs.Entries.{entries}
-use Rattle.scan_exec.specs.Scene.{AreUsed, limits, tuple_of, world_of}
+use Rattle.scan_exec.specs.work.Scene.{AreUsed, limits, tuple_of, world_of}
 use Rattle.scan_exec.proofs.BegunLemmas.{index_begins, index_begun}
 use Rattle.scan_exec.proofs.NearLemmas.{all_used}
 use Rattle.scan_exec.proofs.index.index_rows.Goals as goal

@@ -1,8 +1,8 @@
 use Rattle.std.proofs.Common.{List, ◌∙◌, ap}
 use Rattle.opfamily.specs.declared.classes.IndexKey.{IndexKey}
 use Rattle.catalog.specs.Indexes.{Index}
-use Rattle.scan_probes.specs.Filters.{lent_conditions}
-use Rattle.scan_probes.specs.Probes.{probes_from}
+use Rattle.scan_probes.specs.work.Filters.{lent_conditions}
+use Rattle.scan_probes.specs.work.Probes.{probes_from}
 use Rattle.scan_exec.proofs.SeekLemmas.{bounds_of_tree, probes_known, sought}
 use Rattle.scan_exec.proofs.index.seek.Goals as goal
 

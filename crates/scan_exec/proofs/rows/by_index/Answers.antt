@@ -3,9 +3,9 @@ use Rattle.catalog.specs.Contents.{index_at}
 use Rattle.opfamily.specs.declared.classes.Method.{Method}
 use Rattle.sql_query.specs.Tuples.{rows_of_relation}
 use Rattle.plan_tree.specs.Run.{clauses_at, in_scan_direction, met}
-use Rattle.store.specs.View.{built}
+use Rattle.store.specs.work.View.{built}
 use Rattle.scan_exec.specs.Coming.{fetched_row, index_coming}
-use Rattle.scan_exec.specs.Scene.{tuple_of, world_of}
+use Rattle.scan_exec.specs.work.Scene.{tuple_of, world_of}
 use Rattle.scan_exec.proofs.EqualLemmas.{forward, is_hashed}
 use Rattle.scan_exec.proofs.SeekLemmas.{built_is, is_btree}
 use Rattle.scan_exec.proofs.rows.by_index.Goals as goal

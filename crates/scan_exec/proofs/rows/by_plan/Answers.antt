@@ -1,7 +1,7 @@
 use Rattle.std.proofs.Common.{◌∙◌}
 use Rattle.std.proofs.lemmas.Result.{IfOk-weaker}
-use Rattle.scan_exec.specs.Rows.{rows_of_kind}
-use Rattle.scan_exec.specs.Scene.{tuple_of, world_of}
+use Rattle.scan_exec.specs.work.Rows.{rows_of_kind}
+use Rattle.scan_exec.specs.work.Scene.{tuple_of, world_of}
 use Rattle.scan_exec.proofs.KindLemmas.{bits_come, bits_kind, given_first, index_comes, index_kind, looks_left, only_comes, only_kind, seq_kind, tree_first, tree_left}
 use Rattle.scan_exec.proofs.rows.by_plan.Goals as goal
 

@@ -1,11 +1,11 @@
 use Rattle.std.proofs.Common.{◌≡◌, ◌∙◌, All}
 use Rattle.index_match.specs.Numbered.{base, conditions_of}
-use Rattle.scan_probes.specs.Scenes.{AreReadyAtRow}
+use Rattle.scan_probes.specs.work.Scenes.{AreReadyAtRow}
 use Rattle.sql_query.specs.Tuples.{rows_of_relation}
 use Rattle.plan_tree.specs.Plans.{seq}
 use Rattle.scan_exec.specs.Coming.{coming}
-use Rattle.scan_exec.specs.Kinds.{rows_from}
-use Rattle.scan_exec.specs.Scene.{tuple_of, world_of}
+use Rattle.scan_exec.specs.work.Kinds.{rows_from}
+use Rattle.scan_exec.specs.work.Scene.{tuple_of, world_of}
 use Rattle.scan_exec.proofs.BegunLemmas.{seq_ready, seq_rows_are}
 use Rattle.scan_exec.proofs.MovedLemmas.{moved}
 use Rattle.scan_exec.proofs.seq.seq_rows.Goals as goal

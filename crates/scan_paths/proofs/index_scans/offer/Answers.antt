@@ -1,14 +1,14 @@
 use Rattle.std.proofs.Common.{◌∙◌, ap, map, subst, sym}
 use Rattle.std.proofs.lemmas.Result.{on_ok_weaker}
 use Rattle.pg_base.specs.Sets.{has}
-use Rattle.cost_rules.specs.Costs.{capped_pair}
+use Rattle.cost_rules.specs.work.Costs.{capped_pair}
 use Rattle.eq_classes.specs.Clauses.{one}
 use Rattle.plan_tree.specs.Costs.{cost}
-use Rattle.plan_tree.specs.Fronts.{HasDominating, is_no_bitmap}
+use Rattle.plan_tree.specs.work.Fronts.{HasDominating, is_no_bitmap}
 use Rattle.plan_tree.specs.Least.{IsAdmissible}
 use Rattle.plan_tree.specs.Plans.{Plan}
 use Rattle.plan_tree.specs.Space.{IsPlanOf}
-use Rattle.plan_tree.specs.Views.{path}
+use Rattle.plan_tree.specs.work.Views.{path}
 use Rattle.scan_paths.proofs.SpaceLemmas.{built-of, cost-by, no-bitmap}
 use Rattle.scan_paths.proofs.index_scans.offer.Goals as goal
 

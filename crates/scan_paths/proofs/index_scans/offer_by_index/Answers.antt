@@ -1,10 +1,10 @@
 use Rattle.std.proofs.Common.{◌∙◌, Bool, false, map, subst, sym}
 use Rattle.std.proofs.lemmas.Bool.{true≢false}
 use Rattle.std.proofs.lemmas.Result.{on_ok_weaker}
-use Rattle.plan_tree.specs.Fronts.{IsServed}
+use Rattle.plan_tree.specs.work.Fronts.{IsServed}
 use Rattle.plan_tree.specs.Space.{IsBuilt}
-use Rattle.plan_tree.specs.Views.{path}
-use Rattle.scan_paths.specs.Scans.{tree_by}
+use Rattle.plan_tree.specs.work.Views.{path}
+use Rattle.scan_paths.specs.work.Scans.{tree_by}
 use Rattle.scan_paths.proofs.ReachLemmas.{none-served}
 use Rattle.scan_paths.proofs.TakingLemmas.{either-way, served-later, takes-then}
 use Rattle.scan_paths.proofs.index_scans.offer_by_index.Goals as goal

@@ -1,7 +1,7 @@
 use Rattle.std.proofs.Common.{false, map}
-use Rattle.plan_tree.specs.Fronts.{IsServed}
-use Rattle.plan_tree.specs.Views.{path}
-use Rattle.scan_paths.specs.Scans.{tree_of}
+use Rattle.plan_tree.specs.work.Fronts.{IsServed}
+use Rattle.plan_tree.specs.work.Views.{path}
+use Rattle.scan_paths.specs.work.Scans.{tree_of}
 use Rattle.scan_paths.proofs.TakingLemmas.{either-way, served-later, takes-then}
 use Rattle.scan_paths.proofs.index_scans.offer_ways.Goals as goal
 

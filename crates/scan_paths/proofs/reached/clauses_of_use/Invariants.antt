@@ -1,5 +1,5 @@
 use Rattle.std.proofs.Common.{◌≡◌, ℕ, ◌&&◌, nat_lt}
-use Rattle.pg_expr.specs.AtomSets.{contains}
+use Rattle.pg_expr.specs.work.AtomSets.{contains}
 use Rattle.catalog.specs.Contents.{index_at}
 use Rattle.eq_classes.specs.Listing.{clause_at}
 use Rattle.index_match.specs.Conditions.{is_condition}

@@ -1,7 +1,7 @@
 use Rattle.std.proofs.Common.{◌+◌, List, refl, sym, subst, take}
 use Rattle.std.proofs.lemmas.List.Elements.{All-get_or}
 use Rattle.plan_tree.specs.Bitmaps.{IsIndexOn}
-use Rattle.scan_paths.specs.Reached.{AreReachedBy}
+use Rattle.scan_paths.specs.work.Reached.{AreReachedBy}
 use Rattle.scan_paths.specs.declared.reached.Reached.{Reached}
 use Rattle.scan_paths.proofs.ReachLemmas.{one-reached}
 use Rattle.scan_paths.proofs.reached.each_reached.Goals as goal

@@ -1,5 +1,5 @@
 use Rattle.std.proofs.Common.{take}
-use Rattle.scan_paths.specs.Reached.{AreReachedBy}
+use Rattle.scan_paths.specs.work.Reached.{AreReachedBy}
 use Rattle.scan_paths.proofs.reached.each_reached.Given as goal
 
 -- the indexes so far

@@ -3,7 +3,7 @@ use Rattle.std.specs.Prelude.{All, IfOk}
 use Rattle.pg_base.specs.declared.numbers.IndexNo.{IndexNo}
 use Rattle.catalog.specs.Contents.{indexes_of}
 use Rattle.plan_tree.specs.Bitmaps.{IsIndexOn}
-use Rattle.scan_paths.specs.Reached.{AreReachedBy}
+use Rattle.scan_paths.specs.work.Reached.{AreReachedBy}
 use Rattle.scan_paths.proofs.IndexLemmas.{all-on}
 use Rattle.scan_paths.proofs.reached.indexes_reached.Goals as goal
 

@@ -1,5 +1,5 @@
 use Rattle.pg_base.specs.Sets.{has}
-use Rattle.pg_expr.specs.AtomSets.{contains}
+use Rattle.pg_expr.specs.work.AtomSets.{contains}
 use Rattle.scan_paths.proofs.ReachLemmas.{reach-of}
 use Rattle.scan_paths.proofs.reached.reach.Goals as goal
 

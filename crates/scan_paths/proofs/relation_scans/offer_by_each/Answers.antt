@@ -1,7 +1,7 @@
 use Rattle.std.proofs.Common.{map, subst, take_all}
 use Rattle.std.proofs.lemmas.List.Elements.{All-more}
-use Rattle.plan_tree.specs.Views.{path}
-use Rattle.scan_paths.specs.Scans.{AreIndexesServed, IsIndexServed}
+use Rattle.plan_tree.specs.work.Views.{path}
+use Rattle.scan_paths.specs.work.Scans.{AreIndexesServed, IsIndexServed}
 use Rattle.scan_paths.specs.declared.reached.Reached.{Reached}
 use Rattle.scan_paths.proofs.TakingLemmas.{entries-served-later, takes-then}
 use Rattle.scan_paths.proofs.relation_scans.offer_by_each.Goals as goal

@@ -1,6 +1,6 @@
 use Rattle.std.proofs.Common.{map, take}
-use Rattle.plan_tree.specs.Views.{path}
-use Rattle.scan_paths.specs.Scans.{AreIndexesServed, TakesScans}
+use Rattle.plan_tree.specs.work.Views.{path}
+use Rattle.scan_paths.specs.work.Scans.{AreIndexesServed, TakesScans}
 use Rattle.scan_paths.proofs.relation_scans.offer_by_each.Given as goal
 
 -- the scans by the indexes so far were offered

@@ -1,5 +1,5 @@
 use Rattle.std.proofs.Common.{map}
-use Rattle.plan_tree.specs.Views.{path}
+use Rattle.plan_tree.specs.work.Views.{path}
 use Rattle.scan_paths.proofs.ReachLemmas.{not-reached}
 use Rattle.scan_paths.proofs.relation_scans.offer_reached.Goals as goal
 

@@ -1,5 +1,5 @@
 use Rattle.std.proofs.Common.{refl}
-use Rattle.plan_tree.specs.Fronts.{is_no_bitmap}
+use Rattle.plan_tree.specs.work.Fronts.{is_no_bitmap}
 use Rattle.scan_paths.proofs.relation_scans.offer_seq.Goals as goal
 
 pub returns-clause-takes : goal.returns-clause-takes

@@ -3,8 +3,8 @@ use Rattle.std.specs.Prelude.{All}
 use Rattle.std.proofs.lemmas.Result.{on_ok_weaker}
 use Rattle.pg_base.specs.declared.numbers.IndexNo.{IndexNo}
 use Rattle.plan_tree.specs.Plans.{seq}
-use Rattle.plan_tree.specs.Views.{path}
-use Rattle.scan_paths.specs.Scans.{IsIndexServed}
+use Rattle.plan_tree.specs.work.Views.{path}
+use Rattle.scan_paths.specs.work.Scans.{IsIndexServed}
 use Rattle.scan_paths.proofs.ReachLemmas.{each-index}
 use Rattle.scan_paths.proofs.SpaceLemmas.{all-dominated}
 use Rattle.scan_paths.proofs.TakingLemmas.{served-later, takes-then}

@@ -1,5 +1,5 @@
 use Rattle.std.proofs.Common.{rules}
-use Rattle.catalog.specs.Entries.{index_of}
+use Rattle.catalog.specs.work.Entries.{index_of}
 use Rattle.scan_probes.proofs.EntryLemmas.{included_found, included_passed, key_found, key_passed}
 use Rattle.scan_probes.proofs.bound.entry_value.Goals as goal
 

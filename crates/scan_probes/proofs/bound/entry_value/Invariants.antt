@@ -2,8 +2,8 @@ use Rattle.std.proofs.Common.{false}
 use Rattle.std.specs.List.{list_any}
 use Rattle.std.specs.Prelude.{nat_eq}
 use Rattle.pg_value.specs.declared.value.Value.TheVariants.{Null}
-use Rattle.catalog.specs.Entries.{index_of}
-use Rattle.scan_probes.specs.Values.{key_columns, value_among, value_in_entry}
+use Rattle.catalog.specs.work.Entries.{index_of}
+use Rattle.scan_probes.specs.work.Values.{key_columns, value_among, value_in_entry}
 use Rattle.scan_probes.proofs.EntryLemmas.{IsSought}
 use Rattle.scan_probes.proofs.bound.entry_value.Given as goal
 

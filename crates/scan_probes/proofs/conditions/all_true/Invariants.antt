@@ -1,8 +1,8 @@
 use Rattle.std.proofs.Common.{◌≡◌, drop, map}
 use Rattle.std.specs.List.{AllByRecursion}
-use Rattle.pg_expr.specs.View.{cond}
-use Rattle.scan_probes.specs.Scenes.{IsTestable, has_own_value, values_at}
-use Rattle.scan_probes.specs.Values.{are_true}
+use Rattle.pg_expr.specs.work.View.{cond}
+use Rattle.scan_probes.specs.work.Scenes.{IsTestable, has_own_value, values_at}
+use Rattle.scan_probes.specs.work.Values.{are_true}
 use Rattle.scan_probes.proofs.conditions.all_true.Given as goal
 
 abbrev pub invariant-loop-condition : goal.invariant-loop-condition

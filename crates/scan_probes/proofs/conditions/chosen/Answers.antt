@@ -1,6 +1,6 @@
 use Rattle.std.proofs.Common.{rules, ap, sym, ◌∙◌}
-use Rattle.pg_expr.specs.AtomSets.{contains}
-use Rattle.pg_expr.specs.View.{cond}
+use Rattle.pg_expr.specs.work.AtomSets.{contains}
+use Rattle.pg_expr.specs.work.View.{cond}
 use Rattle.scan_probes.proofs.ChosenLemmas.{taken, left_out}
 use Rattle.scan_probes.proofs.conditions.chosen.Goals as goal
 use Rattle.scan_probes.proofs.conditions.chosen.Goals.{then-has+in_ok-push, else-has}

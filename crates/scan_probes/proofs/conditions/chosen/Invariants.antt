@@ -1,6 +1,6 @@
 use Rattle.std.proofs.Common.{◌≡◌, ◌++◌, drop, map}
-use Rattle.pg_expr.specs.AtomSets.{contains}
-use Rattle.pg_expr.specs.View.{cond}
+use Rattle.pg_expr.specs.work.AtomSets.{contains}
+use Rattle.pg_expr.specs.work.View.{cond}
 use Rattle.path_cost.specs.Estimates.{conditions_from}
 use Rattle.scan_probes.proofs.conditions.chosen.Given as goal
 

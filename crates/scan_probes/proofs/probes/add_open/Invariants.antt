@@ -1,6 +1,6 @@
 use Rattle.std.proofs.Common.{◌≡◌, ◌++◌, drop, map}
-use Rattle.pg_expr.specs.View.{cond}
-use Rattle.scan_probes.specs.Probes.{AreKnown, conditions_on_key, probe_of}
+use Rattle.pg_expr.specs.work.View.{cond}
+use Rattle.scan_probes.specs.work.Probes.{AreKnown, conditions_on_key, probe_of}
 use Rattle.scan_probes.proofs.probes.add_open.Given as goal
 
 abbrev pub invariant-loop-condition : goal.invariant-loop-condition

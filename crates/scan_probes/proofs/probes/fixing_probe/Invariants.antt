@@ -1,8 +1,8 @@
 use Rattle.std.proofs.Common.{◌≡◌, drop, map}
 use Rattle.std.specs.Prelude.{find}
-use Rattle.pg_expr.specs.View.{cond}
+use Rattle.pg_expr.specs.work.View.{cond}
 use Rattle.index_match.specs.Bounds.{is_fixing}
-use Rattle.scan_probes.specs.Probes.{AreKnown, conditions_on_key}
+use Rattle.scan_probes.specs.work.Probes.{AreKnown, conditions_on_key}
 use Rattle.scan_probes.proofs.probes.fixing_probe.Given as goal
 
 abbrev pub invariant-loop-condition : goal.invariant-loop-condition

@@ -1,6 +1,6 @@
 use Rattle.std.proofs.Common.{◌≡◌, ◌++◌, drop, map}
-use Rattle.pg_expr.specs.View.{cond}
-use Rattle.scan_probes.specs.Probes.{probes_from}
+use Rattle.pg_expr.specs.work.View.{cond}
+use Rattle.scan_probes.specs.work.Probes.{probes_from}
 use Rattle.scan_probes.proofs.probes.index_probes.Given as goal
 
 abbrev pub invariant-loop-column : goal.invariant-loop-column

@@ -1,7 +1,7 @@
 use Rattle.std.proofs.Common.{◌≡◌, take}
 use Rattle.pg_base.specs.Sets.{has}
-use Rattle.pathkeys.specs.Finding.{class_numbers}
-use Rattle.sort_rows.specs.Columns.{sorted_columns}
+use Rattle.pathkeys.specs.work.Finding.{class_numbers}
+use Rattle.sort_rows.specs.work.Columns.{sorted_columns}
 use Rattle.sort_rows.proofs.columns.sort_columns.Given as goal
 
 abbrev pub invariant-loop-key : goal.invariant-loop-key

@@ -2,9 +2,9 @@ use Rattle.std.proofs.Common.{◌∷◌, ◌++◌, [], List, Bor, map, ap, ◌�
 use Rattle.std.proofs.lemmas.List.{append_assoc, map_push}
 use Rattle.pg_value.specs.declared.value.Value.{Value}
 use Rattle.sql_query.specs.Tuples.{value_at}
-use Rattle.sort_rows.specs.Columns.{key_at}
-use Rattle.sort_rows.specs.KeySource.{world_of}
-use Rattle.sort_rows.specs.Rows.{tuple_of}
+use Rattle.sort_rows.specs.work.Columns.{key_at}
+use Rattle.sort_rows.specs.work.KeySource.{world_of}
+use Rattle.sort_rows.specs.work.Rows.{tuple_of}
 use Rattle.sort_rows.proofs.RowLemmas.{key_within, key_next}
 use Rattle.sort_rows.proofs.keys.add_key.Goals as goal
 

@@ -1,8 +1,8 @@
 use Rattle.std.proofs.Common.{◌≡◌, ◌++◌, map, take}
 use Rattle.sql_query.specs.Tuples.{value_at}
-use Rattle.sort_rows.specs.Columns.{key_at}
-use Rattle.sort_rows.specs.KeySource.{world_of}
-use Rattle.sort_rows.specs.Rows.{tuple_of}
+use Rattle.sort_rows.specs.work.Columns.{key_at}
+use Rattle.sort_rows.specs.work.KeySource.{world_of}
+use Rattle.sort_rows.specs.work.Rows.{tuple_of}
 use Rattle.sort_rows.proofs.keys.add_key.Given as goal
 
 abbrev pub invariant-loop-column : goal.invariant-loop-column

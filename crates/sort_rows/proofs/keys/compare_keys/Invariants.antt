@@ -1,5 +1,5 @@
 use Rattle.std.proofs.Common.{◌≡◌, drop, map}
-use Rattle.sort_rows.specs.Columns.{columns_order}
+use Rattle.sort_rows.specs.work.Columns.{columns_order}
 use Rattle.sort_rows.proofs.keys.compare_keys.Given as goal
 
 abbrev pub invariant-loop-i : goal.invariant-loop-i

@@ -4,7 +4,7 @@ use Rattle.pg_base.specs.Sets.{has}
 use Rattle.heap.specs.Stored.{Values}
 use Rattle.heap.proofs.RankLemmas.{rank-in, rank-out, rank-most}
 use Rattle.sql_query.specs.Queries.{Query}
-use Rattle.sort_rows.specs.KeySource.{world_of}
+use Rattle.sort_rows.specs.work.KeySource.{world_of}
 use Rattle.sort_rows.proofs.RankLemmas.{rank-below}
 use Rattle.sort_rows.proofs.RowLemmas.{now, AreRowsBelow, rows_none, rows_passed, rows_all, next_number, next_row, next_within}
 use Rattle.sort_rows.proofs.keys.tuple_rows.Goals.{then-has+in_ok-push, else-has}

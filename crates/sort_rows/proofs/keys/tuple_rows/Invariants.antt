@@ -1,7 +1,7 @@
 use Rattle.std.proofs.Common.{◌≤◌, ◌+◌, map}
 use Rattle.pg_base.specs.Sets.{has}
 use Rattle.heap.specs.Tuples.{rank}
-use Rattle.sort_rows.specs.KeySource.{world_of}
+use Rattle.sort_rows.specs.work.KeySource.{world_of}
 use Rattle.sort_rows.proofs.RowLemmas.{AreRowsBelow}
 use Rattle.sort_rows.proofs.keys.tuple_rows.Given as goal
 

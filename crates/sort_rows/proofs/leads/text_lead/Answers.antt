@@ -1,7 +1,7 @@
 use Rattle.std.proofs.Common.{◌≡◌, ◌-◌, ◌+◌, ◌*◌, ◌<◌, ◌≤◌, ◌^◌, suc, pos, ap, ap₂, sym, ◌∙◌, arith}
 use mir.Syntax.{w64}
 use Rattle.std.proofs.lemmas.Int.{to_z_pos}
-use Rattle.sort_rows.specs.Leads.{later, leading, text_lead}
+use Rattle.sort_rows.specs.work.Leads.{later, leading, text_lead}
 use Rattle.sort_rows.proofs.LeadLemmas.{grows, lead_end, lead_fits, lead_step, leading_low}
 use Rattle.sort_rows.proofs.leads.text_lead.Goals as goal
 

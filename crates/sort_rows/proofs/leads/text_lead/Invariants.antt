@@ -1,5 +1,5 @@
 use Rattle.std.proofs.Common.{◌≡◌, ◌-◌}
-use Rattle.sort_rows.specs.Leads.{text_lead}
+use Rattle.sort_rows.specs.work.Leads.{text_lead}
 use Rattle.sort_rows.proofs.leads.text_lead.Given as goal
 
 abbrev pub invariant-loop-n : goal.invariant-loop-n

@@ -1,8 +1,8 @@
 use Rattle.std.proofs.Common.{List, Bor, length, map, ap, ap₂, ◌∙◌}
 use Rattle.std.specs.Ordering.{ordering_then}
 use Rattle.pg_value.specs.declared.value.Value.{Value}
-use Rattle.sort_rows.specs.Columns.{columns_order}
-use Rattle.sort_rows.specs.Keyed.{key_in}
+use Rattle.sort_rows.specs.work.Columns.{columns_order}
+use Rattle.sort_rows.specs.work.Keyed.{key_in}
 use Rattle.sort_rows.proofs.ListLemmas.{run-map}
 use Rattle.sort_rows.proofs.sort.compare_keyed.Goals as goal
 

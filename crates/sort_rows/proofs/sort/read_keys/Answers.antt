@@ -3,7 +3,7 @@ use Rattle.std.proofs.lemmas.Option.{get_or_from_slice_get}
 use Rattle.pg_base.specs.declared.numbers.Tid.{Tid}
 use Rattle.pg_value.specs.declared.value.Value.{Value}
 use Rattle.heap.specs.Tuples.{relation_count}
-use Rattle.sort_rows.specs.KeySource.{key_of}
+use Rattle.sort_rows.specs.work.KeySource.{key_of}
 use Rattle.sort_rows.proofs.ListLemmas.{flat_map-more}
 use Rattle.sort_rows.proofs.sort.read_keys.Goals as goal
 

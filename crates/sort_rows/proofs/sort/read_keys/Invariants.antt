@@ -1,7 +1,7 @@
 use Rattle.std.proofs.Common.{◌≡◌, ◌≤◌, ◌+◌, ◌*◌, map, take}
 use Rattle.std.specs.List.{flat_map}
 use Rattle.heap.specs.Tuples.{relation_count}
-use Rattle.sort_rows.specs.KeySource.{key_of}
+use Rattle.sort_rows.specs.work.KeySource.{key_of}
 use Rattle.sort_rows.proofs.sort.read_keys.Given as goal
 
 abbrev pub invariant-loop-n : goal.invariant-loop-n

@@ -1,6 +1,7 @@
 use Rattle.std.proofs.Common.{◌∷◌, ◌++◌, [], List, sym, ap, ◌∙◌}
 use Rattle.pg_base.specs.declared.numbers.Tid.{Tid}
-use Rattle.heap.specs.Tuples.{TupleList, relation_count}
+use Rattle.heap.specs.Tuples.{relation_count}
+use Rattle.heap.specs.work.Tuples.{TupleList}
 use Rattle.sort_rows.proofs.SortLemmas.{rows_more}
 use Rattle.sort_rows.proofs.sort.rows_of.Goals as goal
 

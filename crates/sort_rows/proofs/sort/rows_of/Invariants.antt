@@ -1,5 +1,5 @@
 use Rattle.std.proofs.Common.{◌≡◌, take}
-use Rattle.sort_rows.specs.Keyed.{rows_keyed}
+use Rattle.sort_rows.specs.work.Keyed.{rows_keyed}
 use Rattle.sort_rows.proofs.sort.rows_of.Given as goal
 
 abbrev pub invariant-loop-item : goal.invariant-loop-item

@@ -1,7 +1,7 @@
 use Rattle.std.proofs.Common.{rules, ap, map}
 use Rattle.std.specs.Result.{is_err}
 use Rattle.pg_value.proofs.SortByLemmas.{sorted_by_closure}
-use Rattle.sort_rows.specs.Keyed.{keyed_order}
+use Rattle.sort_rows.specs.work.Keyed.{keyed_order}
 use Rattle.sort_rows.proofs.OrderLemmas.{keyed_total}
 use Rattle.sort_rows.proofs.sort.sort_keyed.Goals as goal
 

@@ -7,14 +7,14 @@ use Rattle.pg_base.specs.declared.rel_set.RelSet.{RelSet}
 use Rattle.pg_value.specs.Sorting.{in_order}
 use Rattle.eq_classes.specs.Holding.{IsWithin}
 use Rattle.eq_classes.specs.declared.classes.ClassNo.{ClassNo}
-use Rattle.heap.specs.Tuples.{TupleList, padded_tuples}
+use Rattle.heap.specs.work.Tuples.{TupleList, padded_tuples}
 use Rattle.pathkeys.specs.Sorted.{keys_order}
 use Rattle.sql_query.specs.Queries.{Query, all_of_query, width}
 use Rattle.sql_query.specs.Tuples.{value_at}
 use Rattle.sql_query.specs.Worlds.{world}
 use Rattle.sort_rows.specs.declared.columns.SortColumn.{SortColumn}
-use Rattle.sort_rows.specs.Columns.{columns_order, key_at, IsSortColumn}
-use Rattle.sort_rows.specs.Rows.{tuple_of, AllHaveRows, HasRows}
+use Rattle.sort_rows.specs.work.Columns.{columns_order, key_at, IsSortColumn}
+use Rattle.sort_rows.specs.work.Rows.{tuple_of, AllHaveRows, HasRows}
 use Rattle.sort_rows.proofs.ColumnLemmas.{columns_are, columns_given}
 use Rattle.sort_rows.proofs.ListLemmas.{All-unmap}
 use Rattle.sort_rows.proofs.SortLemmas.{rows_kept, tuples_sorted}

@@ -3,12 +3,12 @@ use Rattle.std.proofs.lemmas.Result.{IfOk-weaker}
 use Rattle.pg_base.specs.declared.numbers.Tid.{Tid}
 use Rattle.pg_value.specs.Sorting.{in_order}
 use Rattle.pg_value.specs.declared.value.Value.{Value}
-use Rattle.heap.specs.Tuples.{TupleList}
+use Rattle.heap.specs.work.Tuples.{TupleList}
 use Rattle.sql_query.specs.Tuples.{value_at}
 use Rattle.sort_rows.specs.declared.sort.Keyed.{Keyed}
-use Rattle.sort_rows.specs.Keyed.{keyed_order, rows_keyed, AreKeyed}
-use Rattle.sort_rows.specs.KeySource.{by_key, key_of, world_of}
-use Rattle.sort_rows.specs.Rows.{tuple_of}
+use Rattle.sort_rows.specs.work.Keyed.{keyed_order, rows_keyed, AreKeyed}
+use Rattle.sort_rows.specs.work.KeySource.{by_key, key_of, world_of}
+use Rattle.sort_rows.specs.work.Rows.{tuple_of}
 use Rattle.sort_rows.proofs.SortLemmas.{key_wide, places_within, rows_sorted}
 use Rattle.sort_rows.proofs.sort.sorted.Goals as goal
 

@@ -7,8 +7,8 @@ use Rattle.std.proofs.lemmas.List.Elements.{All-push}
 use Rattle.pg_base.specs.declared.numbers.Tid.{Tid}
 use Rattle.pg_value.specs.declared.value.Value.{Value}
 use Rattle.sort_rows.specs.declared.sort.Keyed.{Keyed}
-use Rattle.sort_rows.specs.Keyed.{rows_keyed, AreKeyed, IsKeyed}
-use Rattle.sort_rows.specs.Leads.{key_lead}
+use Rattle.sort_rows.specs.work.Keyed.{rows_keyed, AreKeyed, IsKeyed}
+use Rattle.sort_rows.specs.work.Leads.{key_lead}
 use Rattle.sort_rows.proofs.ListLemmas.{run-map}
 use Rattle.sort_rows.proofs.sort.with_leads.Goals as goal
 

@@ -1,5 +1,5 @@
 use Rattle.std.proofs.Common.{◌≡◌, length, map, take}
-use Rattle.sort_rows.specs.Keyed.{AreKeyed, rows_keyed}
+use Rattle.sort_rows.specs.work.Keyed.{AreKeyed, rows_keyed}
 use Rattle.sort_rows.proofs.sort.with_leads.Given as goal
 
 abbrev pub invariant-loop-place : goal.invariant-loop-place

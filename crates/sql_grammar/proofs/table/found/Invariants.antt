@@ -1,5 +1,5 @@
 use Rattle.std.proofs.Common.{◌≡◌, drop}
-use Rattle.sql_grammar.specs.Table.{lent_rows, row_for}
+use Rattle.sql_grammar.specs.work.Table.{lent_rows, row_for}
 use Rattle.sql_grammar.proofs.table.found.Given as goal
 
 abbrev pub invariant-loop-n : goal.invariant-loop-n

@@ -1,7 +1,7 @@
 use Rattle.std.proofs.Common.{refl, sym, subst}
-use Rattle.sql_grammar.specs.Reading.{AreTokens}
+use Rattle.sql_grammar.specs.work.Reading.{AreTokens}
 use Rattle.sql_grammar.proofs.StatementWords.{words-are-tokens}
-use Rattle.sql_grammar.specs.Faults.{IsCand, IsPartEnd}
+use Rattle.sql_grammar.specs.work.Faults.{IsCand, IsPartEnd}
 use Rattle.sql_grammar.proofs.Reach.{cands, part}
 use Rattle.sql_grammar.proofs.walk.cand_end.Goals as goal
 

@@ -1,7 +1,7 @@
 use Rattle.std.proofs.Common.{refl, sym, subst}
-use Rattle.sql_grammar.specs.Reading.{AreTokens}
+use Rattle.sql_grammar.specs.work.Reading.{AreTokens}
 use Rattle.sql_grammar.proofs.StatementWords.{words-are-tokens}
-use Rattle.sql_grammar.specs.Faults.{IsExpr, IsPartEnd}
+use Rattle.sql_grammar.specs.work.Faults.{IsExpr, IsPartEnd}
 use Rattle.sql_grammar.proofs.Reach.{exprs, part}
 use Rattle.sql_grammar.proofs.walk.expr_end.Goals as goal
 

@@ -1,7 +1,7 @@
 use Rattle.std.proofs.Common.{refl, sym, subst}
-use Rattle.sql_grammar.specs.Reading.{AreTokens}
+use Rattle.sql_grammar.specs.work.Reading.{AreTokens}
 use Rattle.sql_grammar.proofs.StatementWords.{words-are-tokens}
-use Rattle.sql_grammar.specs.Faults.{IsSelect, IsPartEnd}
+use Rattle.sql_grammar.specs.work.Faults.{IsSelect, IsPartEnd}
 use Rattle.sql_grammar.proofs.Reach.{selects, part}
 use Rattle.sql_grammar.proofs.walk.select_end.Goals as goal
 

@@ -1,7 +1,8 @@
 use Rattle.std.proofs.Common.{subst, sym, drop}
-use Rattle.sql_grammar.specs.Reading.{AreTokens}
+use Rattle.sql_grammar.specs.work.Reading.{AreTokens}
 use Rattle.sql_grammar.proofs.StatementWords.{words-are-tokens}
-use Rattle.sql_grammar.specs.Faults.{IsStatement, IsWhole, IsFirstFault}
+use Rattle.sql_grammar.specs.Faults.{IsStatement, IsFirstFault}
+use Rattle.sql_grammar.specs.work.Faults.{IsWhole}
 use Rattle.sql_grammar.proofs.Reach.{statements, first-fault, whole}
 use Rattle.sql_grammar.proofs.walk.statement_fault.Goals as goal
 

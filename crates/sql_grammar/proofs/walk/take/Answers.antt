@@ -1,6 +1,6 @@
 use Rattle.std.proofs.Common.{◌+◌, sym, ap, ◌∙◌}
 use Rattle.pg_base.specs.declared.limits.TheConstants.{MOST_LEVELS}
-use Rattle.sql_grammar.specs.Machine.{step_of}
+use Rattle.sql_grammar.specs.work.Machine.{step_of}
 use Rattle.sql_grammar.specs.Reading.{terminal_of}
 use Rattle.sql_grammar.proofs.LimitLaws.{past-limit}
 use Rattle.sql_grammar.proofs.walk.take.Goals as goal

@@ -1,5 +1,5 @@
 use Rattle.std.proofs.Common.{◌≡◌, max, map, drop}
-use Rattle.sql_lex.specs.Cuts.{longest_of}
+use Rattle.sql_lex.specs.work.Cuts.{longest_of}
 use Rattle.sql_lex.proofs.forms.longest_len.Given as goal
 
 abbrev pub invariant-loop-text : goal.invariant-loop-text

@@ -5,8 +5,8 @@ use Rattle.sql_grammar.specs.Faults.{fault_at}
 use Rattle.sql_query.specs.Queries.{Query}
 use Rattle.sql_query.specs.WellBound.{IsWellBound}
 use Rattle.sql_query.specs.Worlds.{world}
-use Rattle.index_reader.specs.AdviseStatements.{advice_asked}
-use Rattle.statements.specs.Ending.{end_of_refusal}
+use Rattle.index_reader.specs.work.AdviseStatements.{advice_asked}
+use Rattle.statements.specs.work.Ending.{end_of_refusal}
 use Rattle.statements.proofs.AdvisingLemmas.{found-advised, none-advised, reading-refused}
 use Rattle.statements.proofs.TellingLemmas.{refused-by}
 use Rattle.statements.proofs.advising.advice.Goals as goal

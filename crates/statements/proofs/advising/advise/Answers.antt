@@ -4,7 +4,7 @@ use Rattle.pg_base.specs.Writing.{AppendsPrefix}
 use Rattle.sql_lex.specs.Ends.{end_of}
 use Rattle.sql_query.specs.Worlds.{world}
 use Rattle.group_reply.specs.reply_Replies.{traces}
-use Rattle.statements.specs.Steps.{IsAnsweredOver}
+use Rattle.statements.specs.work.Steps.{IsAnsweredOver}
 use Rattle.statements.proofs.TellingLemmas.{never-write, no-cause-told, refused-stops, telling-begun, telling-written}
 use Rattle.statements.proofs.AnsweringLemmas.{stops-by}
 use Rattle.statements.proofs.advising.advise.Goals as goal

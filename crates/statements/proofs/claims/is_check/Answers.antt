@@ -1,6 +1,6 @@
 use Rattle.std.proofs.Common.{refl}
 use Rattle.sql_grammar.specs.declared.class.Free.TheVariants.{Check}
-use Rattle.statements.specs.Steps.{begins_check}
+use Rattle.statements.specs.work.Steps.{begins_check}
 use Rattle.statements.proofs.ClaimLemmas.{begins-by, no-check}
 use Rattle.statements.proofs.claims.is_check.Goals as goal
 

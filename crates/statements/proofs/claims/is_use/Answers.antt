@@ -1,6 +1,6 @@
 use Rattle.std.proofs.Common.{refl}
 use Rattle.sql_grammar.specs.declared.class.Free.TheVariants.{Use}
-use Rattle.statements.specs.Steps.{begins_use}
+use Rattle.statements.specs.work.Steps.{begins_use}
 use Rattle.statements.proofs.ClaimLemmas.{begins-by, no-use}
 use Rattle.statements.proofs.claims.is_use.Goals as goal
 

@@ -1,6 +1,6 @@
 use Rattle.std.proofs.Common.{Ok, Err, ◌<◌, ℕ, [], length, arith, subst, sym}
 use Rattle.sql_query.specs.Worlds.{world}
-use Rattle.statements.specs.Ending.{end_of_refusal}
+use Rattle.statements.specs.work.Ending.{end_of_refusal}
 use Rattle.statements.proofs.ArmsLemmas.{has-arms}
 use Rattle.statements.proofs.BlockLemmas.{block-within}
 use Rattle.statements.proofs.ClaimLemmas.{a-claim, claim-read, claim-whole, endless-refused, line-refused, meant-there, select-refused}

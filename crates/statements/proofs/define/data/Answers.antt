@@ -1,7 +1,7 @@
 use Rattle.std.proofs.Common.{rules, []}
 use Rattle.ddl_reader.specs.Tables.{data_for}
 use Rattle.sql_query.specs.Worlds.{world}
-use Rattle.statements.specs.Steps.{RefusesDefinition}
+use Rattle.statements.specs.work.Steps.{RefusesDefinition}
 use Rattle.statements.proofs.BlockLemmas.{end-within}
 use Rattle.statements.proofs.LoadingLemmas.{no-memory, refuses-data, some-looks}
 use Rattle.statements.proofs.define.data.Goals as goal

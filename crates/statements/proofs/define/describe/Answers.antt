@@ -1,7 +1,7 @@
 use Rattle.std.proofs.Common.{refl, sym, subst}
 use Rattle.catalog.specs.Contents.{Contents}
-use Rattle.catalog.specs.Entries.{statistics}
-use Rattle.store.specs.Kept.{IsStoreOf}
+use Rattle.catalog.specs.work.Entries.{statistics}
+use Rattle.store.specs.work.Kept.{IsStoreOf}
 use Rattle.store.proofs.LawLemmas.{definition-changed}
 use Rattle.statements.proofs.RefusalLemmas.{statistics-among}
 use Rattle.statements.proofs.define.describe.Goals as goal

@@ -1,6 +1,6 @@
 use Rattle.std.proofs.Common.{refl, sym, subst}
 use Rattle.catalog.specs.Contents.{Contents}
-use Rattle.store.specs.Kept.{IsStoreOf}
+use Rattle.store.specs.work.Kept.{IsStoreOf}
 use Rattle.store.proofs.LawLemmas.{definition-changed}
 use Rattle.statements.proofs.RefusalLemmas.{size-among}
 use Rattle.statements.proofs.define.size.Goals as goal

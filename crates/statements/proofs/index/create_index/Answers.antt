@@ -1,8 +1,8 @@
 use Rattle.std.proofs.Common.{◌≡◌, rules}
 use Rattle.std.proofs.lemmas.Result.{err_from_is_err_and}
-use Rattle.index_reader.specs.Reads.{index_meant}
+use Rattle.index_reader.specs.work.Reads.{index_meant}
 use Rattle.sql_query.specs.Worlds.{world}
-use Rattle.statements.specs.Ending.{end_by}
+use Rattle.statements.specs.work.Ending.{end_by}
 use Rattle.statements.specs.Faults.{index_fault}
 use Rattle.statements.proofs.IndexingLemmas.{read-refused, refused-as}
 use Rattle.statements.proofs.index.create_index.Goals as goal

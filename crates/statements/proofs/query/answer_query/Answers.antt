@@ -1,5 +1,5 @@
 use Rattle.group_reply.specs.reply_Replies.{traces}
-use Rattle.statements.specs.Claims.{world_at}
+use Rattle.statements.specs.work.Claims.{world_at}
 use Rattle.statements.proofs.TellingLemmas.{never-write, no-cause-told, refused-stops}
 use Rattle.statements.proofs.AnsweringLemmas.{answered-over, cause-by, printing-told, stops-by}
 use Rattle.statements.proofs.query.answer_query.Goals as goal

@@ -1,7 +1,7 @@
 use Rattle.std.proofs.Common.{None}
 use Rattle.sql_grammar.specs.Faults.{terminals}
-use Rattle.query_reader.specs.Select.{is_explained}
-use Rattle.statements.specs.Claims.{world_at}
+use Rattle.query_reader.specs.work.Select.{is_explained}
+use Rattle.statements.specs.work.Claims.{world_at}
 use Rattle.statements.proofs.AnsweringLemmas.{groups-tallied}
 use Rattle.statements.proofs.FormLemmas.{none-as, tallied-as, tally-as}
 use Rattle.statements.proofs.query.count.Goals as goal

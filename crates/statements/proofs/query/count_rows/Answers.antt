@@ -1,5 +1,5 @@
 use Rattle.std.proofs.Common.{◌∙◌, sym}
-use Rattle.statements.specs.Claims.{world_at}
+use Rattle.statements.specs.work.Claims.{world_at}
 use Rattle.statements.proofs.AnsweringLemmas.{plan-tallied, rows-tallied, table-tallied}
 use Rattle.statements.proofs.query.count_rows.Goals as goal
 

@@ -1,4 +1,4 @@
-use Rattle.statements.specs.Claims.{world_at}
+use Rattle.statements.specs.work.Claims.{world_at}
 use Rattle.statements.proofs.TellingLemmas.{refused-by}
 use Rattle.statements.proofs.AnsweringLemmas.{measured-over, measuring-told}
 use Rattle.statements.proofs.query.measure_query.Goals as goal

@@ -1,4 +1,4 @@
-use Rattle.statements.specs.Claims.{world_at}
+use Rattle.statements.specs.work.Claims.{world_at}
 use Rattle.statements.proofs.FormLemmas.{none-as, replied-as, stopped-as}
 use Rattle.statements.proofs.query.print.Goals as goal
 

@@ -1,5 +1,5 @@
 use Rattle.std.proofs.Common.{◌∙◌, sym}
-use Rattle.statements.specs.Claims.{world_at}
+use Rattle.statements.specs.work.Claims.{world_at}
 use Rattle.statements.proofs.ReplyLemmas.{groups-replied, groups-stopped, plan-replied, plan-stopped}
 use Rattle.statements.proofs.query.print_groups.Goals as goal
 

@@ -1,5 +1,5 @@
 use Rattle.std.proofs.Common.{◌∙◌, sym}
-use Rattle.statements.specs.Claims.{world_at}
+use Rattle.statements.specs.work.Claims.{world_at}
 use Rattle.statements.proofs.ReplyLemmas.{answered-replied, answered-stopped, explained-replied, explained-stopped, tabled-replied, tabled-stopped}
 use Rattle.statements.proofs.query.print_rows.Goals as goal
 

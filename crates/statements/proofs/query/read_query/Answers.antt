@@ -1,6 +1,6 @@
 use Rattle.std.proofs.Common.{[], Err, Ok, arith}
 use Rattle.sql_query.specs.Worlds.{world}
-use Rattle.statements.specs.Ending.{end_of_refusal}
+use Rattle.statements.specs.work.Ending.{end_of_refusal}
 use Rattle.statements.proofs.TellingLemmas.{refused-by}
 use Rattle.statements.proofs.AnsweringLemmas.{query-refused}
 use Rattle.statements.proofs.QueryLemmas.{Reads, read-selected, selected-bound, selected-form, unplanned-selected}

@@ -1,7 +1,7 @@
 use Rattle.std.proofs.Common.{None, ℕ, subst, sym}
 use Rattle.sql_lex.specs.Ends.{end_of}
 use Rattle.sql_query.specs.Worlds.{world}
-use Rattle.statements.specs.Steps.{IsTalliedOver}
+use Rattle.statements.specs.work.Steps.{IsTalliedOver}
 use Rattle.statements.proofs.TellingLemmas.{refused-by, tallied-telling}
 use Rattle.statements.proofs.replying.tally_advice.Goals as goal
 

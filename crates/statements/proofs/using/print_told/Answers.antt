@@ -1,6 +1,6 @@
 use Rattle.std.proofs.Common.{slice_range}
 use Rattle.group_reply.specs.reply_Replies.{traces}
-use Rattle.statements.specs.Claims.{world_at}
+use Rattle.statements.specs.work.Claims.{world_at}
 use Rattle.statements.proofs.UsingLemmas.{broken-cause, broken-told, followed}
 use Rattle.statements.proofs.using.print_told.Goals as goal
 

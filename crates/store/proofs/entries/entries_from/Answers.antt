@@ -1,6 +1,6 @@
 use Rattle.std.proofs.Common.{◌≡◌, ◌-◌, ◌∙◌, All, ap, arith, length, subst, sym}
-use Rattle.btree_index.specs.Tree.{IsEntryOf}
-use Rattle.catalog.specs.Entries.{index_of}
+use Rattle.btree_index.specs.work.Tree.{IsEntryOf}
+use Rattle.catalog.specs.work.Entries.{index_of}
 use Rattle.store.proofs.FitLemmas.{found-fits}
 use Rattle.store.proofs.FoundLemmas.{among, entries-left, entries-taken, entry-made}
 use Rattle.store.proofs.entries.entries_from.Goals as goal

@@ -1,9 +1,9 @@
 use Rattle.std.proofs.Common.{◌≡◌, ◌-◌, ◌∙◌, All, ap, arith, length, map, subst, sym}
-use Rattle.pg_value.specs.Order.{IsOfFamily}
+use Rattle.pg_value.specs.work.Order.{IsOfFamily}
 use Rattle.opfamily.specs.KeyOrder.{key_family}
-use Rattle.hash_index.specs.Held.{Held}
-use Rattle.store.specs.Kept.{first_key, held_of}
-use Rattle.catalog.specs.Entries.{index_of}
+use Rattle.hash_index.specs.work.Held.{Held}
+use Rattle.store.specs.work.Kept.{first_key, held_of}
+use Rattle.catalog.specs.work.Entries.{index_of}
 use Rattle.store.proofs.FitLemmas.{held-fits}
 use Rattle.store.proofs.FoundLemmas.{among, cell-at, held-left, held-taken, held-made}
 use Rattle.store.proofs.entries.hashed_from.Goals as goal

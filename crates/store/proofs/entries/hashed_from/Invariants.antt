@@ -1,6 +1,6 @@
 use Rattle.std.proofs.Common.{◌≡◌, ◌+◌, ◌-◌, map}
-use Rattle.catalog.specs.Entries.{index_of}
-use Rattle.store.specs.Kept.{held_of}
+use Rattle.catalog.specs.work.Entries.{index_of}
+use Rattle.store.specs.work.Kept.{held_of}
 use Rattle.store.proofs.FoundLemmas.{among}
 use Rattle.store.proofs.entries.hashed_from.Given as goal
 

@@ -3,11 +3,11 @@ use Rattle.std.proofs.Math.ListN.{length-set}
 use Rattle.std.proofs.lemmas.Option.{get_or_from_slice_get}
 use Rattle.heap.specs.Stored.{Stored}
 use Rattle.catalog.specs.Contents.{numbers_from}
-use Rattle.catalog.specs.Entries.{index_of}
+use Rattle.catalog.specs.work.Entries.{index_of}
 use Rattle.catalog.proofs.LawfulLemmas.{few_indexes}
 use Rattle.sql_query.specs.Worlds.{nothing_stored}
-use Rattle.store.specs.Kept.{built_over, first_rows}
-use Rattle.store.specs.View.{built}
+use Rattle.store.specs.work.Kept.{built_over, first_rows}
+use Rattle.store.specs.work.View.{built}
 use Rattle.store.proofs.GrowthLemmas.{at_err, count-other, count-own, counts-within, cut-all, index-before, lawful-index, looks-more, looks-within, mapped-long, next-other, next-own, not-grown, of-other, of-table}
 use Rattle.pg_value.proofs.SortByLemmas.{at_ok}
 use Rattle.store.proofs.store.grow.Goals as goal

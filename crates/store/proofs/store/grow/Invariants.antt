@@ -2,8 +2,8 @@ use Rattle.std.proofs.Common.{◌≡◌, ◌+◌, ◌-◌, ◌*◌, length, map,
 use Rattle.std.specs.Prelude.{slice_index_or}
 use Rattle.catalog.specs.Contents.{numbers_from}
 use Rattle.sql_query.specs.Worlds.{nothing_stored}
-use Rattle.store.specs.Kept.{built_over, first_rows}
-use Rattle.store.specs.View.{built}
+use Rattle.store.specs.work.Kept.{built_over, first_rows}
+use Rattle.store.specs.work.View.{built}
 use Rattle.store.proofs.SwapLemmas.{swapped}
 use Rattle.store.proofs.store.grow.Given as goal
 

@@ -1,9 +1,9 @@
 use Rattle.std.proofs.Common.{◌∙◌, map, refl, arith}
 use Rattle.std.proofs.Math.ListN.{length-set}
-use Rattle.catalog.specs.Entries.{index_of}
+use Rattle.catalog.specs.work.Entries.{index_of}
 use Rattle.catalog.proofs.LawfulLemmas.{few_indexes}
-use Rattle.store.specs.Kept.{cut_back}
-use Rattle.store.specs.View.{built}
+use Rattle.store.specs.work.Kept.{cut_back}
+use Rattle.store.specs.work.View.{built}
 use Rattle.store.proofs.GrowthLemmas.{cut-one, cut-none, of-other, of-table}
 use Rattle.store.proofs.store.shrink.Goals as goal
 

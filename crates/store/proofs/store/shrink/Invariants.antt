@@ -1,6 +1,6 @@
 use Rattle.std.proofs.Common.{◌≡◌, length, map, take}
-use Rattle.store.specs.Kept.{cut_back}
-use Rattle.store.specs.View.{built}
+use Rattle.store.specs.work.Kept.{cut_back}
+use Rattle.store.specs.work.View.{built}
 use Rattle.store.proofs.store.shrink.Given as goal
 
 abbrev pub invariant-loop-n : goal.invariant-loop-n

@@ -1,8 +1,8 @@
 use Rattle.std.proofs.Common.{List, subst}
 use Rattle.std.proofs.lemmas.Result.{err_from_is_err_and}
 use Rattle.pg_value.specs.declared.columns.Column.{Column}
-use Rattle.heap.specs.Loading.{NamesColumnOf}
-use Rattle.store.specs.Kept.{stored_of}
+use Rattle.heap.specs.work.Loading.{NamesColumnOf}
+use Rattle.store.specs.work.Kept.{stored_of}
 use Rattle.store.proofs.TableLemmas.{columns-are, filled, loaded-store, looks-are, still-there}
 use Rattle.store.proofs.tables.fill.Goals as goal
 

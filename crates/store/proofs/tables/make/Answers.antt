@@ -1,6 +1,6 @@
 use Rattle.std.proofs.Common.{rules, ◌≡◌, [], sym, subst}
 use Rattle.catalog.specs.Contents.{Contents, indexes_of, new_table, with_table}
-use Rattle.store.specs.Kept.{IsStoreOf, with_heap}
+use Rattle.store.specs.work.Kept.{IsStoreOf, with_heap}
 use Rattle.store.proofs.LawLemmas.{table-added}
 use Rattle.store.proofs.TableLemmas.{bare}
 use Rattle.store.proofs.tables.make.Goals as goal

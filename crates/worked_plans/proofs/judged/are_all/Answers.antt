@@ -1,6 +1,6 @@
 use Rattle.std.proofs.Common.{◌≡◌, ◌∙◌, sym}
 use Rattle.eq_classes.specs.Listing.{clause_at}
-use Rattle.worked_plans.specs.Examples.{firsts_equal}
+use Rattle.worked_plans.specs.work.Examples.{firsts_equal}
 use Rattle.pg_base.proofs.NumberLemmas.{each-below as below-next}
 use Rattle.worked_plans.proofs.judged.are_all.Goals as goal
 

@@ -1,5 +1,5 @@
 use Rattle.std.proofs.Common.{◌∙◌, ap, map, refl}
-use Rattle.pg_expr.specs.View.{cond}
+use Rattle.pg_expr.specs.work.View.{cond}
 use Rattle.worked_plans.proofs.ClauseLemmas.{no-clause}
 use Rattle.worked_plans.proofs.scans.no_classes.Goals as goal
 

@@ -1,4 +1,4 @@
-use Rattle.store.specs.Kept.{IsStoreOf}
+use Rattle.store.specs.work.Kept.{IsStoreOf}
 use Rattle.worked_rows.proofs.cases.are_made.Given as goal
 
 abbrev pub invariant-loop-text : goal.invariant-loop-text

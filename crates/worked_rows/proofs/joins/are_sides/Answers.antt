@@ -1,5 +1,5 @@
 use Rattle.std.proofs.Common.{refl}
-use Rattle.plan_tree.specs.Views.{plan}
+use Rattle.plan_tree.specs.work.Views.{plan}
 use Rattle.plan_tree.proofs.CostableLemmas.{built-costable}
 use Rattle.plan_laws.proofs.WellBoundLemmas.{bound-over}
 use Rattle.worked_rows.proofs.joins.are_sides.Goals as goal

@@ -1,9 +1,9 @@
 use Rattle.std.proofs.Common.{subst, sym}
 use Rattle.pg_base.specs.Sets.{has}
-use Rattle.heap.specs.Tuples.{padded_tuples}
+use Rattle.heap.specs.work.Tuples.{padded_tuples}
 use Rattle.sql_query.specs.Queries.{width}
 use Rattle.sql_query.specs.Worlds.{world}
-use Rattle.plan_tree.specs.Sorted.{AreSorted}
+use Rattle.plan_tree.specs.work.Sorted.{AreSorted}
 use Rattle.worked_rows.proofs.joins.joined_rows.Goals as goal
 
 pub merge_rows-requires-clause-outer_sorted : goal.merge_rows-requires-clause-outer_sorted

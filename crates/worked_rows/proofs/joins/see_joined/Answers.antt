@@ -1,6 +1,6 @@
 use Rattle.sql_query.specs.Worlds.{world}
 use Rattle.plan_tree.specs.Plans.{set_of}
-use Rattle.plan_tree.specs.Views.{plan}
+use Rattle.plan_tree.specs.work.Views.{plan}
 use Rattle.executor.proofs.StartLemmas.{join_sides}
 use Rattle.worked_rows.proofs.SideLemmas.{side_held, side_up}
 use Rattle.worked_rows.proofs.joins.see_joined.Goals as goal

@@ -1,9 +1,9 @@
 use Rattle.std.proofs.lemmas.Result.{IfOk-weaker}
 use Rattle.pg_base.specs.Sets.{has}
-use Rattle.heap.specs.Tuples.{padded_tuples}
+use Rattle.heap.specs.work.Tuples.{padded_tuples}
 use Rattle.sql_query.specs.Queries.{width}
 use Rattle.sql_query.specs.Worlds.{world}
-use Rattle.plan_tree.specs.Views.{plan}
+use Rattle.plan_tree.specs.work.Views.{plan}
 use Rattle.worked_rows.proofs.SideLemmas.{no_outer_rows, rows_of_scan, set_of_scan}
 use Rattle.worked_rows.proofs.scans.scanned.Goals as goal
 

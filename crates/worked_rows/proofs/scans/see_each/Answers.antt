@@ -1,7 +1,7 @@
 use Rattle.std.proofs.Common.{arith, sym}
 use Rattle.sql_query.specs.Worlds.{world}
-use Rattle.plan_tree.specs.Views.{plan}
-use Rattle.scan_exec.specs.Plans.{param_set}
+use Rattle.plan_tree.specs.work.Views.{plan}
+use Rattle.scan_exec.specs.work.Plans.{param_set}
 use Rattle.merge_exec.proofs.JoinLemmas.{rows_lent}
 use Rattle.worked_rows.proofs.scans.see_each.Goals as goal
 

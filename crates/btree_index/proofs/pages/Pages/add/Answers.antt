@@ -1,5 +1,5 @@
 use Rattle.std.proofs.Common.{length}
-use Rattle.btree_index.specs.Pages.{entries_of, rank}
+use Rattle.btree_index.specs.work.Pages.{entries_of, rank}
 use Rattle.btree_index.proofs.SeekLemmas.{rank_within, behind_parts, put_in}
 use Rattle.btree_index.proofs.pages.Pages.add.Goals as goal
 

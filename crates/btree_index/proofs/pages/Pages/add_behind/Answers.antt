@@ -1,5 +1,5 @@
 use Rattle.std.proofs.Common.{◌∙◌}
-use Rattle.btree_index.specs.Pages.{entries_of}
+use Rattle.btree_index.specs.work.Pages.{entries_of}
 use Rattle.btree_index.proofs.AddingLemmas.{taken_back}
 use Rattle.btree_index.proofs.pages.Pages.add_behind.Goals as goal
 

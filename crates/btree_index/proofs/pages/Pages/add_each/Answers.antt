@@ -1,6 +1,6 @@
 use Rattle.std.proofs.Common.{sym, subst}
-use Rattle.btree_index.specs.Adding.{AreAdded}
-use Rattle.btree_index.specs.Pages.{entries_of}
+use Rattle.btree_index.specs.work.Adding.{AreAdded}
+use Rattle.btree_index.specs.work.Pages.{entries_of}
 use Rattle.btree_index.proofs.AddingLemmas.{none_added, up_still, one_added}
 use Rattle.btree_index.proofs.pages.Pages.add_each.Goals as goal
 

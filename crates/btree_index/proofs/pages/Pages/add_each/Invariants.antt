@@ -1,5 +1,5 @@
-use Rattle.btree_index.specs.Adding.{AreAdded}
-use Rattle.btree_index.specs.Pages.{IsPaged, entries_of}
+use Rattle.btree_index.specs.work.Adding.{AreAdded}
+use Rattle.btree_index.specs.work.Pages.{IsPaged, entries_of}
 use Rattle.btree_index.proofs.pages.Pages.add_each.Given as goal
 
 abbrev pub invariant-loop-entry : goal.invariant-loop-entry

@@ -2,8 +2,9 @@ use Rattle.std.proofs.Common.{◌∙◌, ◌++◌, ◌∷◌, [], ap, arith, len
 use Rattle.std.proofs.lemmas.List.{length-map}
 use Rattle.pg_base.specs.Names.{IsName}
 use Rattle.catalog.specs.Contents.{Contents, IsIndexOf, with_index}
-use Rattle.catalog.specs.Entries.{contents_of, index_of, named_index}
-use Rattle.catalog.specs.Tables.{Fits, IsAcceptableIndex, IsUnused}
+use Rattle.catalog.specs.work.Entries.{contents_of, index_of, named_index}
+use Rattle.catalog.specs.Tables.{IsAcceptableIndex, IsUnused}
+use Rattle.catalog.specs.work.Tables.{Fits}
 use Rattle.catalog.proofs.LawfulLemmas.{few_indexes}
 use Rattle.catalog.proofs.WriteLemmas.{index-added, index-kept, listed-old}
 use Rattle.catalog.proofs.contents.Catalog.add_index.Goals as goal

@@ -1,7 +1,7 @@
 use Rattle.std.proofs.Common.{◌<◌, ◌≤◌, ◌∙◌, ap, arith, length, subst, sym}
 use Rattle.pg_base.specs.declared.limits.TheConstants.{MOST_COLUMNS}
 use Rattle.catalog.specs.Contents.{Contents, IsLawfulTable, new_table, with_table}
-use Rattle.catalog.specs.Entries.{contents_of}
+use Rattle.catalog.specs.work.Entries.{contents_of}
 use Rattle.catalog.specs.Tables.{IsAcceptable, IsUnused}
 use Rattle.catalog.proofs.NamedLemmas.{new-lawful}
 use Rattle.catalog.proofs.WriteLemmas.{table-added, table-kept}

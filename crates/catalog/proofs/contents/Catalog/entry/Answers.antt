@@ -1,6 +1,6 @@
 use Rattle.std.proofs.Common.{◌∙◌, ap, map, subst, sym}
 use Rattle.catalog.specs.Contents.{Contents, IsLawful, indexes_of, no_table, table_at}
-use Rattle.catalog.specs.Entries.{named_index, table_def}
+use Rattle.catalog.specs.work.Entries.{named_index, table_def}
 use Rattle.catalog.proofs.EntryLemmas.{def-at}
 use Rattle.catalog.proofs.WriteLemmas.{listed-entry}
 use Rattle.catalog.proofs.contents.Catalog.entry.Goals as goal

@@ -2,7 +2,7 @@ use Rattle.std.proofs.Common.{◌∙◌, ap, position, refl}
 use Rattle.std.specs.Map.{keys_of}
 use Rattle.std.specs.Str.{bytes_eq}
 use Rattle.catalog.specs.Contents.{index_names}
-use Rattle.catalog.specs.Entries.{named_index}
+use Rattle.catalog.specs.work.Entries.{named_index}
 use Rattle.catalog.proofs.NameLaws.{position-key_names}
 use Rattle.catalog.proofs.EntryLemmas.{names-of}
 use Rattle.catalog.proofs.contents.Catalog.index_place.Goals as goal

@@ -2,7 +2,7 @@ use Rattle.std.proofs.Common.{◌∙◌, ap, position, refl, subst}
 use Rattle.std.specs.Map.{keys_of}
 use Rattle.std.specs.Str.{bytes_eq}
 use Rattle.catalog.specs.Contents.{IsLawful, table_names}
-use Rattle.catalog.specs.Entries.{table_def}
+use Rattle.catalog.specs.work.Entries.{table_def}
 use Rattle.catalog.proofs.NameLaws.{position-key_names}
 use Rattle.catalog.proofs.EntryLemmas.{names-of}
 use Rattle.catalog.proofs.contents.Catalog.place.Goals as goal

@@ -1,10 +1,11 @@
 use Rattle.std.proofs.Common.{◌∙◌, Some, ap, arith, length, map, refl, subst, sym}
 use Rattle.std.specs.Option.{option_map}
 use Rattle.std.proofs.lemmas.List.{length-map}
-use Rattle.catalog.specs.Analysed.{FitColumns, with_analysis}
+use Rattle.catalog.specs.Analysed.{with_analysis}
+use Rattle.catalog.specs.work.Analysed.{FitColumns}
 use Rattle.catalog.specs.Contents.{Contents, TableDef, no_table, table_at}
-use Rattle.catalog.specs.Entries.{contents_of}
-use Rattle.catalog.specs.Known.{statistics}
+use Rattle.catalog.specs.work.Entries.{contents_of}
+use Rattle.catalog.specs.work.Known.{statistics}
 use Rattle.catalog.proofs.AnalysedLemmas.{known-each, one-each}
 use Rattle.catalog.proofs.ChangedLemmas.{changed}
 use Rattle.catalog.proofs.EntryLemmas.{def-of_value}

@@ -3,7 +3,7 @@ use Rattle.std.specs.Option.{option_map}
 use Rattle.std.proofs.lemmas.List.{map-set}
 use Rattle.opfamily.specs.pg_value_value_SqlType_TheVariants.{Bool as BoolType}
 use Rattle.catalog.specs.Contents.{Contents, IsColumn, IsKnown, TableDef, no_table, table_at, with_stats}
-use Rattle.catalog.specs.Entries.{contents_of, statistics}
+use Rattle.catalog.specs.work.Entries.{contents_of, statistics}
 use Rattle.catalog.specs.Indexes.{type_at}
 use Rattle.catalog.specs.Statistics.{AreValuesOf, Statistics}
 use Rattle.catalog.proofs.EntryLemmas.{def-of_value}

@@ -1,7 +1,7 @@
 use Rattle.std.proofs.Common.{◌∙◌, ap, arith}
 use Rattle.std.specs.Option.{option_map}
 use Rattle.catalog.specs.Contents.{TableDef, table_at}
-use Rattle.catalog.specs.Entries.{statistics}
+use Rattle.catalog.specs.work.Entries.{statistics}
 use Rattle.catalog.proofs.NamedLemmas.{stats-at, stats-within}
 use Rattle.catalog.proofs.contents.Catalog.stats.Goals as goal
 

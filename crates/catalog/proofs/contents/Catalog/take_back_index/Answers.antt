@@ -1,6 +1,7 @@
 use Rattle.std.proofs.Common.{◌∙◌, ap, arith, refl, subst, sym}
 use Rattle.pg_base.specs.declared.numbers.TableNo.{TableNo}
-use Rattle.catalog.specs.Contents.{Contents, IsLastIndex, indexes_before}
+use Rattle.catalog.specs.Contents.{Contents}
+use Rattle.catalog.specs.work.Contents.{IsLastIndex, indexes_before}
 use Rattle.catalog.proofs.WriteLemmas.{index-taken, last-within, taken-kept}
 use Rattle.catalog.proofs.contents.Catalog.take_back_index.Goals as goal
 

@@ -1,5 +1,6 @@
 use Rattle.std.proofs.Common.{◌≡◌, [], subst, sym}
-use Rattle.catalog.specs.Contents.{Contents, IsLastTable, indexes_of}
+use Rattle.catalog.specs.Contents.{Contents, indexes_of}
+use Rattle.catalog.specs.work.Contents.{IsLastTable}
 use Rattle.catalog.proofs.WriteLemmas.{untabled}
 use Rattle.catalog.proofs.contents.Catalog.take_back_table.Goals as goal
 

@@ -1,7 +1,7 @@
 use Rattle.std.proofs.Common.{◌≡◌, ◌∙◌, refl, subst}
 use Rattle.std.specs.List.{AllZip}
 use Rattle.std.specs.Option.{option_map}
-use Rattle.catalog.specs.Known.{statistics}
+use Rattle.catalog.specs.work.Known.{statistics}
 use Rattle.catalog.proofs.CopyLemmas.{seen-copied}
 use Rattle.catalog.proofs.copies.TableCopied.copied.Goals as goal
 

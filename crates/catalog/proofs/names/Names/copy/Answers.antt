@@ -1,7 +1,7 @@
 use Rattle.std.proofs.Common.{◌∙◌, ap, subst}
 use Rattle.std.proofs.lemmas.Option.{get_or_from_slice_get, slice_get_within}
 use Rattle.pg_base.specs.Names.{AreDistinct}
-use Rattle.catalog.specs.Keys.{key_names}
+use Rattle.catalog.specs.work.Keys.{key_names}
 use Rattle.catalog.proofs.CopyLemmas.{different-names}
 use Rattle.catalog.proofs.NameLaws.{copied-more}
 use Rattle.catalog.proofs.names.Names.copy.Goals as goal

@@ -1,5 +1,5 @@
 use Rattle.std.proofs.Common.{◌≡◌, take}
-use Rattle.catalog.specs.Keys.{key_names}
+use Rattle.catalog.specs.work.Keys.{key_names}
 use Rattle.catalog.proofs.names.Names.copy.Given as goal
 
 abbrev pub invariant-loop-n : goal.invariant-loop-n

@@ -1,6 +1,6 @@
 use Rattle.std.proofs.Common.{◌∙◌, sym, ap}
 use Rattle.std.proofs.lemmas.List.{get_or_default}
-use Rattle.catalog.specs.Keys.{key_names}
+use Rattle.catalog.specs.work.Keys.{key_names}
 use Rattle.catalog.proofs.NameLaws.{copied-more}
 use Rattle.catalog.proofs.names.Names.copy_of.Goals as goal
 

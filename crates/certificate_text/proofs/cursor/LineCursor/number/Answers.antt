@@ -1,7 +1,7 @@
 use Rattle.std.proofs.Common.{◌≡◌, ◌<◌, ◌^◌, ◌++◌, ◌∙◌, ℕ, List, ap, sym}
 use Rattle.std.specs.Prelude.{Option, IfSome, Some, None}
 use Rattle.std.specs.Fmt.{decimal}
-use Rattle.certificate_text.specs.Words.{number_written}
+use Rattle.certificate_text.specs.work.Words.{number_written}
 use Rattle.certificate_text.proofs.NumeralLemmas.{read-back, written-is}
 use Rattle.pg_base.proofs.NameLemmas.{decimal-word}
 use Rattle.certificate_text.proofs.cursor.LineCursor.number.Goals as goal

@@ -1,5 +1,5 @@
 use Rattle.std.proofs.Common.{◌∙◌, ◌-◌, ap, drop, length, sym, take}
-use Rattle.certificate_text.specs.Words.{word_end}
+use Rattle.certificate_text.specs.work.Words.{word_end}
 use Rattle.certificate_text.proofs.WordLemmas.{behind, parted, word-end, word-left}
 use Rattle.certificate_text.proofs.cursor.LineCursor.word.Goals as goal
 

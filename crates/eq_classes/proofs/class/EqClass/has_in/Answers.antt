@@ -1,6 +1,6 @@
 use Rattle.std.proofs.Common.{List, ap, subst, arith}
 use Rattle.pg_expr.specs.declared.operand.ColRef.{ColRef}
-use Rattle.eq_classes.specs.Building.{IsMasked}
+use Rattle.eq_classes.specs.work.Building.{IsMasked}
 use Rattle.eq_classes.specs.Classes.{Class}
 use Rattle.eq_classes.proofs.NamedLemmas.{class_meets}
 use Rattle.eq_classes.proofs.class.EqClass.has_in.Goals as goal

@@ -1,7 +1,7 @@
 use Rattle.std.proofs.Common.{◌≡◌, true, List, AllPairs, ap, subst, arith}
 use Rattle.pg_expr.specs.declared.operand.ColRef.{ColRef}
 use Rattle.pg_expr.specs.Pushed.{is_lower}
-use Rattle.eq_classes.specs.Building.{IsMasked}
+use Rattle.eq_classes.specs.work.Building.{IsMasked}
 use Rattle.eq_classes.specs.Classes.{Class}
 use Rattle.eq_classes.proofs.NamedLemmas.{lowest_is}
 use Rattle.eq_classes.proofs.class.EqClass.lowest.Goals as goal

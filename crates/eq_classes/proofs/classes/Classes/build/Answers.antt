@@ -1,5 +1,5 @@
 use Rattle.std.proofs.lemmas.Result.{IfOk-weaker}
-use Rattle.eq_classes.specs.Building.{given}
+use Rattle.eq_classes.specs.work.Building.{given}
 use Rattle.eq_classes.specs.Holding.{IsClassTable}
 use Rattle.eq_classes.proofs.TableLemmas.{where_at, Means}
 use Rattle.eq_classes.proofs.classes.Classes.build.Goals as goal

@@ -1,8 +1,9 @@
 use Rattle.std.proofs.Common.{◌≡◌, ℕ, ◌&&◌, nat_lt}
 use Rattle.opfamily.specs.pg_base_Sets.{has}
-use Rattle.pg_expr.specs.AtomSets.{contains}
+use Rattle.pg_expr.specs.work.AtomSets.{contains}
 use Rattle.eq_classes.specs.Parts.{is_join_param}
-use Rattle.eq_classes.specs.Listing.{clause_at, clauses_of}
+use Rattle.eq_classes.specs.Listing.{clause_at}
+use Rattle.eq_classes.specs.work.Listing.{clauses_of}
 use Rattle.eq_classes.proofs.classes.Classes.join_param_clauses.Given as goal
 
 abbrev pub invariant-loop-n : goal.invariant-loop-n

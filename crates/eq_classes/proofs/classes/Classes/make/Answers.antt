@@ -1,12 +1,12 @@
 use Rattle.std.proofs.Common.{◌≡◌, ◌<◌, ◌≤◌, ◌+◌, ◌^◌, ◌∙◌, List, map, All, length, nat_lt, true, sym, subst, arith}
 use Rattle.pg_expr.specs.declared.expr.Expr.{Expr}
-use Rattle.pg_expr.specs.Columns.{rels_below}
-use Rattle.pg_expr.specs.View as view
+use Rattle.pg_expr.specs.work.Columns.{rels_below}
+use Rattle.pg_expr.specs.work.View as view
 use Rattle.eq_classes.specs.declared.clauses.Listed.{Listed}
 use Rattle.eq_classes.specs.Classes.{Class, AreClasses}
 use Rattle.eq_classes.specs.Clauses.{conjunct_clauses, clause_list}
-use Rattle.eq_classes.specs.Building.{given}
-use Rattle.eq_classes.specs.Listing.{clauses_of, AreNamed}
+use Rattle.eq_classes.specs.work.Building.{given}
+use Rattle.eq_classes.specs.work.Listing.{clauses_of, AreNamed}
 use Rattle.eq_classes.proofs.ListedLemmas.{listed_is, listed_near, listed_few, classes_low}
 use Rattle.eq_classes.proofs.classes.Classes.make.Goals as goal
 

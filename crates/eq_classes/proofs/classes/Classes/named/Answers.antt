@@ -4,7 +4,8 @@ use Rattle.opfamily.specs.pg_base_Sets.{has}
 use Rattle.opfamily.specs.pg_base_rel_set_RelSet.{RelSet}
 use Rattle.pg_expr.specs.Columns.{names_rel}
 use Rattle.eq_classes.specs.Clauses.{ClassTable}
-use Rattle.eq_classes.specs.Listing.{clause_at, clauses_of}
+use Rattle.eq_classes.specs.Listing.{clause_at}
+use Rattle.eq_classes.specs.work.Listing.{clauses_of}
 use Rattle.eq_classes.proofs.NamedLemmas.{named_low, clauses_length, named_at}
 use Rattle.eq_classes.proofs.classes.Classes.named.Goals as goal
 

@@ -1,8 +1,8 @@
 use Rattle.std.proofs.Common.{arith}
 use Rattle.std.proofs.lemmas.List.{length-take-le}
 use Rattle.std.proofs.lemmas.List.Elements.{All-take}
-use Rattle.sql_grammar.specs.Reading.{IsWithin}
-use Rattle.expr_reader.specs.Reading.{HasDigits}
+use Rattle.sql_grammar.specs.work.Reading.{IsWithin}
+use Rattle.expr_reader.specs.work.Reading.{HasDigits}
 use Rattle.expr_reader.proofs.Tokens.{words-digits}
 use Rattle.sql_grammar.proofs.StatementWords.{words-inside}
 use Rattle.expr_reader.proofs.cursor.Cursor.part.Goals as goal

@@ -1,6 +1,6 @@
 use Rattle.std.proofs.Common.{ap, ◌∙◌}
 use Rattle.std.specs.Prelude.{is_some}
-use Rattle.expr_reader.specs.Places.{is_it}
+use Rattle.expr_reader.specs.work.Places.{is_it}
 use Rattle.expr_reader.proofs.PlaceLemmas.{some-any}
 use Rattle.expr_reader.proofs.places.ColumnPlaces.has.Goals as goal
 

@@ -1,5 +1,5 @@
 use Rattle.std.proofs.Common.{take}
-use Rattle.expr_reader.specs.Places.{AreFirst}
+use Rattle.expr_reader.specs.work.Places.{AreFirst}
 use Rattle.expr_reader.proofs.places.ColumnPlaces.of.Given as goal
 
 -- the places of the columns before it are noted

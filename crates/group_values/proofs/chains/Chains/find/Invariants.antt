@@ -1,5 +1,5 @@
 use Rattle.std.proofs.Common.{length}
-use Rattle.group_values.specs.Chains.{chain_from}
+use Rattle.group_values.specs.work.Chains.{chain_from}
 use Rattle.group_values.proofs.ChainLemmas.{IsOn}
 use Rattle.group_values.proofs.chains.Chains.find.Given as goal
 

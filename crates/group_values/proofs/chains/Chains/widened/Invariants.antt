@@ -1,5 +1,5 @@
 use Rattle.std.proofs.Common.{◌≡◌, ◌*◌, length, take}
-use Rattle.group_values.specs.Chains.{IsChained}
+use Rattle.group_values.specs.work.Chains.{IsChained}
 use Rattle.group_values.proofs.chains.Chains.widened.Given as goal
 
 abbrev pub invariant-loop-hash : goal.invariant-loop-hash

@@ -1,8 +1,8 @@
 -- What the list has is what the slice that was lent has.
 use Rattle.std.proofs.Common.{◌≡◌, length, refl, sym, subst, arith}
 use Rattle.std.proofs.lemmas.List.{with_items_is}
-use Rattle.group_values.specs.Steps.{AreWhole}
-use Rattle.group_values.specs.Listing.{HasNoted}
+use Rattle.group_values.specs.work.Steps.{AreWhole}
+use Rattle.group_values.specs.work.Listing.{HasNoted}
 use Rattle.group_values.proofs.PushLemmas.{joined-finds, joined-whole}
 use Rattle.group_values.proofs.listing.Listing.join.Goals as goal
 

@@ -1,5 +1,5 @@
 use Rattle.std.proofs.Common.{[], sym, subst}
-use Rattle.group_values.specs.Groups.{IsSumOf}
+use Rattle.group_values.specs.work.Groups.{IsSumOf}
 use Rattle.group_values.proofs.SumLemmas.{first-sum}
 use Rattle.group_values.proofs.tuples.Groups.new.Goals as goal
 

@@ -3,9 +3,9 @@ use Rattle.std.proofs.Common.{List, ap, sym, subst, length, refl, ◌∙◌}
 use Rattle.pg_value.specs.declared.value.Value.{Value}
 use Rattle.group_values.specs.declared.shape.Call.{Call}
 use Rattle.group_values.specs.Shapes.{GroupShape}
-use Rattle.group_values.specs.Grouping.{Grouping}
-use Rattle.group_values.specs.Listing.{IsListing}
-use Rattle.group_values.specs.Places.{HasNoGroup, IsGroupOf}
+use Rattle.group_values.specs.work.Grouping.{Grouping}
+use Rattle.group_values.specs.work.Listing.{IsListing}
+use Rattle.group_values.specs.work.Places.{HasNoGroup, IsGroupOf}
 use Rattle.group_values.proofs.PushLemmas.{begun-pushed, begun-whole, joined-pushed}
 use Rattle.group_values.proofs.tuples.Groups.push.Goals as goal
 

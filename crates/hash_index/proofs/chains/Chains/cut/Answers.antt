@@ -1,8 +1,8 @@
 -- The values and their slots stay.
 use Rattle.std.proofs.Common.{◌≡◌, List, map, length, ap, sym, subst, ◌∙◌}
 use Rattle.std.proofs.lemmas.List.{with_items_is, length-map}
-use Rattle.hash_index.specs.Chains.{AreChained}
-use Rattle.hash_index.specs.Groups.{RowsOf, below, held_by}
+use Rattle.hash_index.specs.work.Chains.{AreChained}
+use Rattle.hash_index.specs.work.Groups.{RowsOf, below, held_by}
 use Rattle.hash_index.proofs.GroupLemmas.{below_held, below_value}
 use Rattle.hash_index.proofs.SlotLemmas.{chained_kept}
 use Rattle.hash_index.proofs.chains.Chains.cut.Goals as goal

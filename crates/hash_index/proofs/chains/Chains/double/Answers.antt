@@ -1,6 +1,6 @@
 -- Each value stands under its new bucket.
 use Rattle.std.proofs.Common.{ap, length, ◌∙◌, arith}
-use Rattle.hash_index.specs.Groups.{value_at}
+use Rattle.hash_index.specs.work.Groups.{value_at}
 use Rattle.hash_index.proofs.SlotLemmas.{chained_doubled, known_within}
 use Rattle.hash_index.proofs.chains.Chains.double.Goals as goal
 

@@ -1,6 +1,6 @@
 use Rattle.std.proofs.Common.{ap, ◌∙◌}
 use Rattle.pg_value.specs.declared.value.Value.TheVariants.{Null}
-use Rattle.hash_index.specs.Groups.{held_by}
+use Rattle.hash_index.specs.work.Groups.{held_by}
 use Rattle.hash_index.proofs.GroupLemmas.{wider_held, wider_push}
 use Rattle.hash_index.proofs.chains.Chains.new.Goals as goal
 

@@ -1,8 +1,8 @@
 -- One row more in one slot; taken out again it leaves the slots as they were, and maybe some without rows.
 use Rattle.std.proofs.Common.{ap, sym, subst, set, length, ◌∙◌, arith}
 use Rattle.std.proofs.lemmas.List.{length-set}
-use Rattle.hash_index.specs.Chains.{AreChained}
-use Rattle.hash_index.specs.Groups.{RowsOf, group_at, held_by, value_at, with_tid, without_at}
+use Rattle.hash_index.specs.work.Chains.{AreChained}
+use Rattle.hash_index.specs.work.Groups.{RowsOf, group_at, held_by, value_at, with_tid, without_at}
 use Rattle.hash_index.proofs.GroupLemmas.{group_is, held, put_as, put_held, put_out, put_value, wider_held, wider_on, wider_same}
 use Rattle.hash_index.proofs.SlotLemmas.{chained_kept}
 use Rattle.hash_index.proofs.chains.Chains.put.Goals as goal

@@ -1,7 +1,7 @@
 -- The slot stands behind its bucket's, and what stood behind another bucket's still does.
 use Rattle.std.proofs.Common.{ap, sym, subst, ◌∙◌, arith}
-use Rattle.hash_index.specs.Chains.{head_for, stands_behind}
-use Rattle.hash_index.specs.Held.{IsKnown}
+use Rattle.hash_index.specs.work.Chains.{head_for, stands_behind}
+use Rattle.hash_index.specs.work.Held.{IsKnown}
 use Rattle.hash_index.proofs.SlotLemmas.{head_differs}
 use Rattle.hash_index.proofs.UnderLemmas.{put_kept, put_stands}
 use Rattle.hash_index.proofs.chains.Chains.put_under_bucket.Goals as goal

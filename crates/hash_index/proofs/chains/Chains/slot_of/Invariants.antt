@@ -1,5 +1,5 @@
 use Rattle.std.proofs.Common.{length}
-use Rattle.linked.specs.Lists.{list_of}
+use Rattle.linked.specs.work.Lists.{list_of}
 use Rattle.hash_index.proofs.WalkLemmas.{IsOn, onward}
 use Rattle.hash_index.proofs.chains.Chains.slot_of.Given as goal
 

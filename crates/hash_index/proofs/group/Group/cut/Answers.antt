@@ -4,7 +4,7 @@ use Rattle.std.specs.Prelude.{IsFalse, nat_lt}
 use Rattle.std.specs.Ordering.{is_gt, on, nat_cmp}
 use Rattle.std.proofs.lemmas.List.Kept.{AllPairs-filter}
 use Rattle.pg_base.specs.declared.numbers.Tid.{Tid}
-use Rattle.hash_index.specs.Groups.{AreRising}
+use Rattle.hash_index.specs.work.Groups.{AreRising}
 use Rattle.hash_index.proofs.group.Group.cut.Goals as goal
 
 pub invariant_of-self : goal.invariant_of-self

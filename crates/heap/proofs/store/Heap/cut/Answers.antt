@@ -1,5 +1,6 @@
 use Rattle.std.proofs.Common.{◌≡◌, ◌≤◌, ◌*◌, ℕ, length, take, sym, ap, ◌∙◌, arith}
-use Rattle.heap.specs.Stored.{Stored, Values, laid_out}
+use Rattle.heap.specs.Stored.{Stored, Values}
+use Rattle.heap.specs.work.Stored.{laid_out}
 use Rattle.heap.proofs.RunLemmas.{first-inside, length-runs_of}
 use Rattle.heap.proofs.StoredLemmas.{cut-here, cut-lawful, cut_to}
 use Rattle.heap.proofs.store.Heap.cut.Goals as goal

@@ -2,7 +2,8 @@ use Rattle.std.proofs.Common.{◌≡◌, ◌+◌, ◌-◌, ◌*◌, List, length
 use Rattle.std.specs.List.{All}
 use Rattle.pg_base.specs.declared.limits.TheConstants.{MOST_ROWS}
 use Rattle.pg_value.specs.declared.columns.Column.{Column}
-use Rattle.heap.specs.Loading.{loaded, records_of, appended_rows, rows_from}
+use Rattle.heap.specs.Loading.{loaded, records_of, rows_from}
+use Rattle.heap.specs.work.Loading.{appended_rows}
 use Rattle.heap.specs.Stored.{IsRowOf, Stored}
 use Rattle.heap.proofs.RunLemmas.{length-runs_of, times-sum}
 use Rattle.heap.proofs.StoredLemmas.{fault-here, load-here, load-lawful}

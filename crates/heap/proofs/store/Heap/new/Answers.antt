@@ -1,6 +1,6 @@
 use Rattle.std.proofs.Common.{refl, arith, rules}
 use Rattle.std.proofs.lemmas.List.Elements.{All-nil}
-use Rattle.heap.specs.Tuples.{runs_of}
+use Rattle.heap.specs.work.Tuples.{runs_of}
 use Rattle.heap.proofs.store.Heap.new.Goals as goal
 
 pub invariant_of-result : goal.invariant_of-result

@@ -1,7 +1,7 @@
 use Rattle.std.proofs.Common.{◌<◌, ℕ, ◌/◌, ◌%◌, ◌||◌, Bool, nat_eq, length, sym, ap, ◌∙◌, arith}
 use Rattle.std.proofs.lemmas.Grind.{get_or_default_zero}
 use Rattle.pg_base.specs.Sets.{has}
-use Rattle.heap.specs.TidSets.{TidSet, is_marked, is_member, rows_passing}
+use Rattle.heap.specs.work.TidSets.{TidSet, is_marked, is_member, rows_passing}
 use Rattle.heap.proofs.MarkLemmas.{marked-more}
 use Rattle.heap.proofs.MemberLemmas.{member-those, set_of, those-same}
 use Rattle.heap.proofs.tids.Tids.add.Goals as goal

@@ -1,6 +1,6 @@
 use Rattle.std.proofs.Common.{◌≡◌, ◌&&◌, ℕ, List, Bool, length, sym, ap, ap₂, ◌∙◌, arith}
 use Rattle.std.proofs.lemmas.List.{with_items_is}
-use Rattle.heap.specs.TidSets.{TidSet, is_marked, is_member, rows_passing}
+use Rattle.heap.specs.work.TidSets.{TidSet, is_marked, is_member, rows_passing}
 use Rattle.heap.proofs.MarkLemmas.{marked-both}
 use Rattle.heap.proofs.MemberLemmas.{member-those, set_of, those-same}
 use Rattle.heap.proofs.tids.Tids.and.Goals as goal

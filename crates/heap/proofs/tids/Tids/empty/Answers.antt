@@ -1,5 +1,5 @@
 use Rattle.std.proofs.Common.{◌+◌, ◌/◌, ap, ◌∙◌, List, ℕ}
-use Rattle.heap.specs.TidSets.{is_marked}
+use Rattle.heap.specs.work.TidSets.{is_marked}
 use Rattle.heap.proofs.MarkLemmas.{none-marked}
 use Rattle.heap.proofs.MemberLemmas.{set_of, those-none}
 use Rattle.heap.proofs.tids.Tids.empty.Goals as goal

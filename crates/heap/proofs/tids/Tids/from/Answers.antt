@@ -1,5 +1,5 @@
 use Rattle.std.proofs.Common.{◌+◌, ◌∷◌, ℕ, List, length, sym, ap, subst, ◌∙◌, arith}
-use Rattle.heap.specs.TidSets.{IsTidSet, TidSet, is_marked, not_below}
+use Rattle.heap.specs.work.TidSets.{IsTidSet, TidSet, is_marked, not_below}
 use Rattle.heap.proofs.MemberLemmas.{rest-first, rest-none, tid_set}
 use Rattle.heap.proofs.tids.Tids.from.Goals as goal
 

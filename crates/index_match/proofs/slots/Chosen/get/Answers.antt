@@ -1,6 +1,6 @@
 use Rattle.std.proofs.Common.{sym, ◌∙◌}
-use Rattle.pg_expr.specs.AtomSets.{contains}
-use Rattle.pg_expr.specs.View.{cond}
+use Rattle.pg_expr.specs.work.AtomSets.{contains}
+use Rattle.pg_expr.specs.work.View.{cond}
 use Rattle.index_match.proofs.SlotLemmas.{chosen_some, chosen_none}
 use Rattle.index_match.proofs.slots.Chosen.get.Goals as goal
 

@@ -1,7 +1,7 @@
 use Rattle.std.proofs.Common.{sym, ap, ◌∙◌, slice_get, List, Option, arith}
 use Rattle.std.proofs.lemmas.List.{drop_all}
 use Rattle.pg_expr.specs.Cond.{Cond}
-use Rattle.index_match.specs.Slots.{placed, chosen_slots}
+use Rattle.index_match.specs.work.Slots.{placed, chosen_slots}
 use Rattle.index_match.proofs.SlotLemmas.{is_there}
 use Rattle.index_match.proofs.slots.ChosenClauseList.clause.Goals as goal
 

@@ -1,5 +1,5 @@
 use Rattle.std.proofs.Common.{◌≡◌, drop, slice_get}
-use Rattle.index_match.specs.Slots.{placed, chosen_slots}
+use Rattle.index_match.specs.work.Slots.{placed, chosen_slots}
 use Rattle.index_match.proofs.slots.ChosenClauseList.clause.Given as goal
 
 abbrev pub invariant-loop-k : goal.invariant-loop-k

@@ -1,5 +1,5 @@
 use Rattle.std.proofs.Common.{◌≡◌, ◌≤◌, ◌+◌, length, drop}
-use Rattle.index_match.specs.Slots.{placed, chosen_slots}
+use Rattle.index_match.specs.work.Slots.{placed, chosen_slots}
 use Rattle.index_match.proofs.slots.ChosenClauseList.count.Given as goal
 
 abbrev pub invariant-loop-n : goal.invariant-loop-n

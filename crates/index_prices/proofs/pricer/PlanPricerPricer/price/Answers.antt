@@ -1,8 +1,8 @@
 use Rattle.std.proofs.Common.{◌<◌, length, sym, subst}
 use Rattle.std.specs.Result.{IfOk}
-use Rattle.advisor.specs.Memos.{IsQuote}
+use Rattle.advisor.specs.work.Memos.{IsQuote}
 use Rattle.index_prices.specs.Prices.{prices_of}
-use Rattle.index_prices.specs.Proposals.{Proposal}
+use Rattle.index_prices.specs.work.Proposals.{Proposal}
 use Rattle.index_prices.proofs.ProposalLemmas.{query-bound, quote-told}
 use Rattle.index_prices.proofs.pricer.PlanPricerPricer.price.Goals as goal
 

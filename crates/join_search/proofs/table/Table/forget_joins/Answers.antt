@@ -1,5 +1,5 @@
 use Rattle.std.proofs.Common.{ap}
-use Rattle.join_search.specs.Tables.{found_at}
+use Rattle.join_search.specs.work.Tables.{found_at}
 use Rattle.join_search.proofs.TableLemmas.{found-single}
 use Rattle.join_search.proofs.table.Table.forget_joins.Goals as goal
 

@@ -1,6 +1,6 @@
 use Rattle.std.proofs.Common.{◌∙◌, ap}
 use Rattle.std.proofs.lemmas.Result.{IfOk-weaker}
-use Rattle.join_search.specs.Tables.{params_of}
+use Rattle.join_search.specs.work.Tables.{params_of}
 use Rattle.join_search.proofs.table.Table.params.Goals as goal
 
 pub returns : goal.returns

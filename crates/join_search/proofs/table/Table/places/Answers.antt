@@ -1,5 +1,5 @@
 use Rattle.std.proofs.Common.{◌∙◌, ap, sym}
-use Rattle.join_search.specs.Tables.{list_at}
+use Rattle.join_search.specs.work.Tables.{list_at}
 use Rattle.join_search.proofs.TableLemmas.{list-here, list-none}
 use Rattle.join_search.proofs.table.Table.places.Goals as goal
 

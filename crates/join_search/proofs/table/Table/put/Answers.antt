@@ -1,6 +1,6 @@
 use Rattle.std.proofs.Common.{◌∙◌, ap, sym}
 use Rattle.std.proofs.lemmas.Result.{IfErr-weaker, on_ok_weaker}
-use Rattle.join_search.specs.Tables.{found_at}
+use Rattle.join_search.specs.work.Tables.{found_at}
 use Rattle.join_search.proofs.TableLemmas.{list-here, list-set, put-elsewhere}
 use Rattle.join_search.proofs.table.Table.put.Goals as goal
 

@@ -1,6 +1,6 @@
 use Rattle.std.proofs.Common.{arith, length-drop, sym, ap, ◌∙◌}
 use Rattle.std.proofs.lemmas.List.{nil_from_length}
-use Rattle.pg_base.specs.Memories.{Feed}
+use Rattle.pg_base.specs.work.Memories.{Feed}
 use Rattle.pg_base.proofs.Bytes.{given}
 use Rattle.pg_base.proofs.mem.MemSourceSource.read.Goals as goal
 

@@ -2,7 +2,7 @@ use Rattle.std.proofs.Common.{ap, subst}
 use Rattle.std.proofs.lemmas.Result.{IfErr-weaker}
 use Rattle.statements.specs.reply_Replies.{traces}
 use Rattle.sql_query.specs.Worlds.{World}
-use Rattle.statements.specs.Steps.{Refuses, StopsOver}
+use Rattle.statements.specs.work.Steps.{Refuses, StopsOver}
 use Rattle.statements.proofs.SteppingLemmas.{answered-ahead, answered-inside, defined-behind, same-world, stopped-definition, stopped-query}
 use Rattle.pgplan.proofs.machine.Machine.step.Goals as goal
 

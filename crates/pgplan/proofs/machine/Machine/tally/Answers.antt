@@ -1,7 +1,7 @@
 use Rattle.std.proofs.Common.{subst}
 use Rattle.std.proofs.lemmas.Result.{IfErr-weaker}
 use Rattle.sql_query.specs.Worlds.{World, world}
-use Rattle.statements.specs.Steps.{IsDefined, Refuses}
+use Rattle.statements.specs.work.Steps.{IsDefined, Refuses}
 use Rattle.statements.proofs.SteppingLemmas.{defined-behind, same-world}
 use Rattle.statements.proofs.TallyLemmas.{tallied-ahead, tallied-definition, tallied-inside, tally-refused}
 use Rattle.pgplan.proofs.machine.Machine.tally.Goals as goal

@@ -1,6 +1,6 @@
 use Rattle.std.proofs.Common.{arith, get_or, map, refl, ◌∙◌}
 use Rattle.std.specs.Prelude.{slice_get}
-use Rattle.plan_check.specs.Views.{entry}
+use Rattle.plan_check.specs.work.Views.{entry}
 use Rattle.plan_check.proofs.PlacedLemmas.{placed-all, placed-next}
 use Rattle.plan_check.proofs.PlaceLemmas.{read-at}
 use Rattle.plan_check.proofs.places.SetPlaces.of.Goals as goal

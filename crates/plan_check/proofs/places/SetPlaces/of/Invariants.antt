@@ -1,8 +1,8 @@
 use Rattle.std.proofs.Common.{◌≡◌, ◌<◌, ℕ, get_or, map}
 use Rattle.std.specs.Prelude.{Some, slice_get}
 use Rattle.plan_check.specs.Certificates.{Entry}
-use Rattle.plan_check.specs.Views.{entry}
-use Rattle.plan_check.specs.Placing.{IsAmong, order_of}
+use Rattle.plan_check.specs.work.Views.{entry}
+use Rattle.plan_check.specs.work.Placing.{IsAmong, order_of}
 use Rattle.plan_check.proofs.places.SetPlaces.of.Given as goal
 
 -- the entries at the ranks before are placed

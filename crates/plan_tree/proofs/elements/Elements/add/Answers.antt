@@ -1,7 +1,7 @@
 use Rattle.std.proofs.Common.{◌≡◌, ◌∙◌, length, ap, sym, arith}
 use Rattle.std.proofs.lemmas.Grind.{common_steps}
 use Rattle.std.proofs.lemmas.List.{length-map}
-use Rattle.plan_tree.specs.Views.{element}
+use Rattle.plan_tree.specs.work.Views.{element}
 use Rattle.plan_tree.proofs.ElementLemmas.{full-kept}
 use Rattle.plan_tree.proofs.elements.Elements.add.Goals as goal
 

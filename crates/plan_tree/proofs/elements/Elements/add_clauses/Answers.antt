@@ -5,7 +5,7 @@ use Rattle.eq_classes.specs.Clauses.{Clause, ClassTable}
 use Rattle.eq_classes.specs.Listing.{clause_at}
 use Rattle.eq_classes.specs.Parts.{is_base, is_param}
 use Rattle.plan_tree.specs.Bitmaps.{IsElement}
-use Rattle.plan_tree.specs.Gathering.{Gathered}
+use Rattle.plan_tree.specs.work.Gathering.{Gathered}
 use Rattle.plan_tree.proofs.GatherLemmas.{gather-clause, clauses-end}
 use Rattle.plan_tree.proofs.elements.Elements.add_clauses.Goals as goal
 

@@ -2,7 +2,7 @@ use Rattle.std.proofs.Common.{List, drop, ◌||◌}
 use Rattle.pg_base.specs.Sets.{has}
 use Rattle.eq_classes.specs.Parts.{is_base, is_param}
 use Rattle.plan_tree.specs.Bitmaps.{Element, IsElement}
-use Rattle.plan_tree.specs.Gathering.{Gathered}
+use Rattle.plan_tree.specs.work.Gathering.{Gathered}
 use Rattle.plan_tree.proofs.GatherLemmas.{clauses-left}
 use Rattle.plan_tree.proofs.elements.Elements.add_clauses.Given as goal
 

@@ -3,7 +3,7 @@ use Rattle.pg_base.specs.Sets.{has}
 use Rattle.pg_base.specs.declared.numbers.IndexNo.{IndexNo}
 use Rattle.sql_query.specs.catalog_Contents.{indexes_of}
 use Rattle.plan_tree.specs.Bitmaps.{IsElement, by_index}
-use Rattle.plan_tree.specs.Gathering.{Gathered}
+use Rattle.plan_tree.specs.work.Gathering.{Gathered}
 use Rattle.plan_tree.proofs.ElementLemmas.{index-within}
 use Rattle.plan_tree.proofs.GatherLemmas.{gather-index, gather-end}
 use Rattle.plan_tree.proofs.elements.Elements.add_indexes.Goals as goal

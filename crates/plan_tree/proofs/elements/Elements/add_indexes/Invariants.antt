@@ -1,7 +1,7 @@
 use Rattle.std.proofs.Common.{List, drop, map, ◌++◌}
 use Rattle.pg_base.specs.Sets.{has}
 use Rattle.plan_tree.specs.Bitmaps.{Element, IsElement, by_index}
-use Rattle.plan_tree.specs.Gathering.{Gathered}
+use Rattle.plan_tree.specs.work.Gathering.{Gathered}
 use Rattle.plan_tree.proofs.elements.Elements.add_indexes.Given as goal
 
 abbrev pub invariant-loop-i : goal.invariant-loop-i

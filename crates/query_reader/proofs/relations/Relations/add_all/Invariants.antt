@@ -1,6 +1,7 @@
 use Rattle.std.proofs.Common.{◌≡◌, ◌++◌, drop}
 use Rattle.expr_reader.specs.Scope.{columns_in_scope}
-use Rattle.query_reader.specs.Scope.{relations_from, visible_in}
+use Rattle.query_reader.specs.Scope.{relations_from}
+use Rattle.query_reader.specs.work.Scope.{visible_in}
 use Rattle.query_reader.proofs.relations.Relations.add_all.Given as goal
 
 -- the columns so far, with those to come, are all

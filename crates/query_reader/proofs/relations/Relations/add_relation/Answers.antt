@@ -1,6 +1,6 @@
 use Rattle.std.proofs.Common.{Ok, subst}
 use Rattle.expr_reader.specs.Scope.{Scope, columns_in_scope}
-use Rattle.query_reader.specs.Adds.{Adds}
+use Rattle.query_reader.specs.work.Adds.{Adds}
 use Rattle.query_reader.proofs.RelationsLemmas.{inside, own-of}
 use Rattle.query_reader.proofs.relations.Relations.add_relation.Goals as goal
 

@@ -2,9 +2,9 @@ use Rattle.std.proofs.Common.{List, ap, sym, subst, ◌∙◌, Result}
 use Rattle.pg_base.specs.declared.faults.Fault.{Fault}
 use Rattle.pg_expr.specs.declared.operand.ColRef.{ColRef}
 use Rattle.expr_reader.specs.Scope.{under}
-use Rattle.query_reader.specs.Adds.{Adds}
+use Rattle.query_reader.specs.work.Adds.{Adds}
 use Rattle.query_reader.specs.Binding.{found_relation}
-use Rattle.query_reader.specs.Scope.{own_columns, visible_in}
+use Rattle.query_reader.specs.work.Scope.{own_columns, visible_in}
 use Rattle.query_reader.proofs.RelationsLemmas.{all-there, filled, lawful-relations}
 use Rattle.query_reader.proofs.relations.Relations.add_under.Goals as goal
 

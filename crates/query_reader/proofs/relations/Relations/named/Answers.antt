@@ -1,7 +1,8 @@
 use Rattle.std.proofs.Common.{◌≡◌, refl, subst}
 use Rattle.expr_reader.specs.declared.found.Found.TheVariants.{NoColumn}
 use Rattle.expr_reader.specs.Scope.{of_name, the_one}
-use Rattle.query_reader.specs.Scope.{Sight, scope_after, visible_in}
+use Rattle.query_reader.specs.Scope.{scope_after}
+use Rattle.query_reader.specs.work.Scope.{Sight, visible_in}
 use Rattle.query_reader.proofs.RelationsLemmas.{after, after-none, left, name-parts}
 use Rattle.query_reader.proofs.relations.Relations.named.Goals as goal
 

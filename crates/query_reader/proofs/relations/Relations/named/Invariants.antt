@@ -1,6 +1,6 @@
 use Rattle.std.proofs.Common.{◌≡◌, refl}
 use Rattle.expr_reader.specs.Scope.{of_name, the_one}
-use Rattle.query_reader.specs.Scope.{visible_in}
+use Rattle.query_reader.specs.work.Scope.{visible_in}
 use Rattle.query_reader.proofs.RelationsLemmas.{after, left, name-parts}
 use Rattle.query_reader.proofs.relations.Relations.named.Given as goal
 

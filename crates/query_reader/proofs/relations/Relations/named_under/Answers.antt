@@ -1,7 +1,7 @@
 use Rattle.std.proofs.Common.{ap}
 use Rattle.expr_reader.specs.Scope.{the_one}
 use Rattle.expr_reader.specs.declared.found.Found.TheVariants.{NoColumn}
-use Rattle.query_reader.specs.Scope.{own_columns, visible_in}
+use Rattle.query_reader.specs.work.Scope.{own_columns, visible_in}
 use Rattle.query_reader.proofs.RelationsLemmas.{filled, lawful-relations, under-one}
 use Rattle.query_reader.proofs.relations.Relations.named_under.Goals as goal
 

@@ -1,6 +1,6 @@
 use Rattle.std.proofs.Common.{arith}
 use Rattle.expr_reader.specs.Scope.{under}
-use Rattle.query_reader.specs.Scope.{visible_in}
+use Rattle.query_reader.specs.work.Scope.{visible_in}
 use Rattle.query_reader.proofs.RelationsLemmas.{hit, miss}
 use Rattle.query_reader.proofs.relations.Relations.place_of.Goals as goal
 

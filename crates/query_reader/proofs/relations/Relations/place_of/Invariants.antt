@@ -1,6 +1,6 @@
 use Rattle.std.proofs.Common.{◌≡◌}
 use Rattle.expr_reader.specs.Scope.{under}
-use Rattle.query_reader.specs.Scope.{visible_in}
+use Rattle.query_reader.specs.work.Scope.{visible_in}
 use Rattle.query_reader.proofs.RelationsLemmas.{sought}
 use Rattle.query_reader.proofs.relations.Relations.place_of.Given as goal
 

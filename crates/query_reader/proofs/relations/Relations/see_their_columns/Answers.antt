@@ -1,7 +1,7 @@
 use Rattle.std.proofs.Common.{◌≡◌, true, All, subst}
-use Rattle.path_cost.specs.Columns.{is_column_in}
+use Rattle.path_cost.specs.work.Columns.{is_column_in}
 use Rattle.expr_reader.specs.Scope.{Visible}
-use Rattle.query_reader.specs.Scope.{Sight, visible_in}
+use Rattle.query_reader.specs.work.Scope.{Sight, visible_in}
 use Rattle.query_reader.proofs.BoundLemmas.{all-seen}
 use Rattle.query_reader.proofs.relations.Relations.see_their_columns.Goals as goal
 

@@ -2,7 +2,8 @@ use Rattle.std.proofs.Common.{◌≡◌, refl, subst}
 use Rattle.expr_reader.specs.declared.found.Found.TheVariants.{NoColumn}
 use Rattle.expr_reader.specs.Scope.{the_one}
 use Rattle.query_reader.specs.Order.{shown_of_name}
-use Rattle.query_reader.specs.Scope.{Sight, scope_after, visible_in}
+use Rattle.query_reader.specs.Scope.{scope_after}
+use Rattle.query_reader.specs.work.Scope.{Sight, visible_in}
 use Rattle.query_reader.proofs.RelationsLemmas.{after, after-none, left, shown-parts}
 use Rattle.query_reader.proofs.relations.Relations.shown.Goals as goal
 

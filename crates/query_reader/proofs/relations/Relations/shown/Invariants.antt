@@ -1,7 +1,7 @@
 use Rattle.std.proofs.Common.{◌≡◌, refl}
 use Rattle.expr_reader.specs.Scope.{the_one}
 use Rattle.query_reader.specs.Order.{shown_of_name}
-use Rattle.query_reader.specs.Scope.{visible_in}
+use Rattle.query_reader.specs.work.Scope.{visible_in}
 use Rattle.query_reader.proofs.RelationsLemmas.{after, left, shown-parts}
 use Rattle.query_reader.proofs.relations.Relations.shown.Given as goal
 

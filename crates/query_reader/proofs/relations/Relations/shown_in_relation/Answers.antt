@@ -1,4 +1,4 @@
-use Rattle.query_reader.specs.Scope.{own_columns}
+use Rattle.query_reader.specs.work.Scope.{own_columns}
 use Rattle.query_reader.proofs.RelationsLemmas.{shown-one, hidden-one}
 use Rattle.std.proofs.Common.{sym, ◌∙◌}
 use Rattle.query_reader.proofs.relations.Relations.shown_in_relation.Goals as goal

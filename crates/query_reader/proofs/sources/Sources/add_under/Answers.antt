@@ -1,10 +1,11 @@
 use Rattle.std.proofs.Common.{ap, sym, subst, ◌∙◌, All, map, length, nat_lt}
 use Rattle.pg_base.specs.declared.limits.TheConstants.{MOST_RELATIONS}
-use Rattle.pg_expr.specs.View.{cond}
+use Rattle.pg_expr.specs.work.View.{cond}
 use Rattle.catalog.specs.Contents.{IsTable, IsLawfulTable, table_at}
 use Rattle.catalog.specs.Range.{Range}
-use Rattle.path_cost.specs.Columns.{IsOver}
-use Rattle.query_reader.specs.From.{AreRelations, Joined, is_taken}
+use Rattle.path_cost.specs.work.Columns.{IsOver}
+use Rattle.query_reader.specs.From.{Joined, is_taken}
+use Rattle.query_reader.specs.work.From.{AreRelations}
 use Rattle.query_reader.proofs.SourceLemmas.{all-over-more, more-relations}
 use Rattle.query_reader.proofs.sources.Sources.add_under.Goals as goal
 

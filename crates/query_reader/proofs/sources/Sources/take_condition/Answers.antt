@@ -1,6 +1,6 @@
 use Rattle.std.proofs.Common.{Ok, List, map, ap, ◌∙◌}
 use Rattle.pg_expr.specs.Cond.{Cond}
-use Rattle.pg_expr.specs.View.{cond}
+use Rattle.pg_expr.specs.work.View.{cond}
 use Rattle.pg_expr.specs.declared.expr.Exprs.{Exprs}
 use Rattle.catalog.specs.Range.{type_in}
 use Rattle.expr_reader.proofs.ReadsLemmas.{was-read}

@@ -1,7 +1,7 @@
 use Rattle.std.proofs.Common.{◌≡◌, ◌++◌, arith, ap, subst, ◌∙◌, length}
 use Rattle.sql_grammar.specs.Words.{words_of_joins}
 use Rattle.expr_reader.proofs.StepLemmas.{step, stop}
-use Rattle.query_reader.specs.Conveys.{ReadsInto}
+use Rattle.query_reader.specs.work.Conveys.{ReadsInto}
 use Rattle.query_reader.specs.From.{Joined, with_group, with_joins, with_relation}
 use Rattle.query_reader.specs.Written.{source_of}
 use Rattle.query_reader.proofs.FromLemmas.{group-words}

@@ -3,7 +3,7 @@ use Rattle.sql_grammar.specs.FromParts.{groups_after}
 use Rattle.sql_grammar.specs.Terminals.{Terminal}
 use Rattle.sql_grammar.specs.Syntax.{Group, Mark}
 use Rattle.sql_grammar.specs.Words.{words_of_group, words_of_groups}
-use Rattle.query_reader.specs.Ends.{ends_from}
+use Rattle.query_reader.specs.work.Ends.{ends_from}
 use Rattle.query_reader.specs.From.{with_groups}
 use Rattle.query_reader.proofs.sources.Sources.take_groups.Given as goal
 

@@ -1,6 +1,6 @@
 use Rattle.std.proofs.Common.{◌∷◌, ◌++◌, Some, subst}
 use Rattle.sql_grammar.specs.Words.{words_of_joins}
-use Rattle.query_reader.specs.Joins.{IsNext}
+use Rattle.query_reader.specs.work.Joins.{IsNext}
 use Rattle.query_reader.proofs.FromLemmas.{cross-join, on-join}
 use Rattle.query_reader.proofs.JoinLemmas.{joins-alias, joins-expr}
 use Rattle.query_reader.proofs.SourceLemmas.{into-same}

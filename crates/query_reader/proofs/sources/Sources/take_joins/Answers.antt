@@ -3,7 +3,7 @@ use Rattle.sql_grammar.specs.Syntax.{Join}
 use Rattle.sql_grammar.specs.Words.{words_of_joins}
 use Rattle.expr_reader.proofs.StepLemmas.{step, stop}
 use Rattle.query_reader.specs.From.{Joined, with_join, with_joins}
-use Rattle.query_reader.specs.Joins.{IsNext}
+use Rattle.query_reader.specs.work.Joins.{IsNext}
 use Rattle.query_reader.proofs.FromLemmas.{split}
 use Rattle.query_reader.proofs.JoinLemmas.{joins-shorter}
 use Rattle.query_reader.proofs.SourceLemmas.{into-fault, into-stopped, was-into}

@@ -2,7 +2,7 @@ use Rattle.std.proofs.Common.{◌≡◌, true, List, ◌++◌, length}
 use Rattle.sql_grammar.specs.Terminals.{Terminal}
 use Rattle.sql_grammar.specs.Syntax.{Join}
 use Rattle.sql_grammar.specs.Words.{words_of_joins}
-use Rattle.query_reader.specs.Ends.{ends_group}
+use Rattle.query_reader.specs.work.Ends.{ends_group}
 use Rattle.query_reader.specs.From.{with_joins}
 use Rattle.query_reader.proofs.sources.Sources.take_joins.Given as goal
 

@@ -1,6 +1,6 @@
 use Rattle.std.proofs.Common.{◌≡◌, subst}
 use Rattle.query_reader.specs.declared.written.Source.{Source}
-use Rattle.query_reader.specs.Conveys.{Conveys}
+use Rattle.query_reader.specs.work.Conveys.{Conveys}
 use Rattle.query_reader.specs.From.{Joined, with_relation}
 use Rattle.query_reader.specs.Written.{source_of}
 use Rattle.query_reader.proofs.SourceLemmas.{into-conveyed}

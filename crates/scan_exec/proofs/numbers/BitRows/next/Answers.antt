@@ -1,7 +1,7 @@
 use Rattle.std.proofs.Common.{◌+◌, ap, ◌∙◌, arith}
-use Rattle.heap.specs.TidSets.{not_below}
-use Rattle.scan_probes.specs.Filters.{lent_conditions}
-use Rattle.scan_exec.specs.Kinds.{fetched_at, passes_row}
+use Rattle.heap.specs.work.TidSets.{not_below}
+use Rattle.scan_probes.specs.work.Filters.{lent_conditions}
+use Rattle.scan_exec.specs.work.Kinds.{fetched_at, passes_row}
 use Rattle.scan_exec.proofs.StepLemmas.{number_fails, number_rest, number_row, onward_split, ready_at}
 use Rattle.scan_exec.proofs.numbers.BitRows.next.Goals as goal
 

@@ -1,9 +1,9 @@
 use Rattle.std.proofs.Common.{◌≡◌, ◌≤◌, All, length}
 use Rattle.pg_base.specs.declared.limits.TheConstants.{MOST_ROWS}
-use Rattle.heap.specs.TidSets.{not_below}
-use Rattle.scan_probes.specs.Filters.{lent_conditions}
-use Rattle.scan_probes.specs.Scenes.{AreReadyAtRow}
-use Rattle.scan_exec.specs.Kinds.{rows_of}
+use Rattle.heap.specs.work.TidSets.{not_below}
+use Rattle.scan_probes.specs.work.Filters.{lent_conditions}
+use Rattle.scan_probes.specs.work.Scenes.{AreReadyAtRow}
+use Rattle.scan_exec.specs.work.Kinds.{rows_of}
 use Rattle.scan_exec.proofs.DrawLemmas.{IsOnward}
 use Rattle.scan_exec.proofs.numbers.BitRows.next.Given as goal
 

@@ -1,6 +1,6 @@
 use Rattle.std.proofs.Common.{◌≡◌, ◌∷◌, ap, ◌∙◌, map}
-use Rattle.scan_probes.specs.Filters.{lent_conditions}
-use Rattle.scan_exec.specs.Kinds.{IsReadyNumber, fetched_at, passes_row}
+use Rattle.scan_probes.specs.work.Filters.{lent_conditions}
+use Rattle.scan_exec.specs.work.Kinds.{IsReadyNumber, fetched_at, passes_row}
 use Rattle.scan_exec.proofs.StepLemmas.{number_fails, number_rest, number_row, onward_split, ready_behind, ready_first, ready_row}
 use Rattle.scan_exec.proofs.numbers.HashRows.next.Goals as goal
 

@@ -1,6 +1,6 @@
 use Rattle.std.proofs.Common.{All, length, map}
-use Rattle.scan_probes.specs.Filters.{lent_conditions}
-use Rattle.scan_exec.specs.Kinds.{IsReadyNumber, rows_of}
+use Rattle.scan_probes.specs.work.Filters.{lent_conditions}
+use Rattle.scan_exec.specs.work.Kinds.{IsReadyNumber, rows_of}
 use Rattle.scan_exec.proofs.DrawLemmas.{IsOnward}
 use Rattle.scan_exec.proofs.numbers.HashRows.next.Given as goal
 

@@ -1,6 +1,6 @@
-use Rattle.scan_exec.specs.Rows.{rows_of_kind}
-use Rattle.scan_exec.specs.Coming.{looks_allowed}
-use Rattle.plan_tree.specs.Views.{plan}
+use Rattle.scan_exec.specs.work.Rows.{rows_of_kind}
+use Rattle.scan_exec.specs.work.Coming.{looks_allowed}
+use Rattle.plan_tree.specs.work.Views.{plan}
 use Rattle.scan_exec.proofs.KindLemmas.{comes_at, looks_within, most_within, over_heaps, reads_within, rows_in_heaps, scene_is}
 use Rattle.scan_exec.proofs.rows.ScanRows.start.Goals as goal
 

@@ -1,6 +1,6 @@
 use Rattle.std.proofs.Common.{◌∙◌}
 use Rattle.std.proofs.lemmas.Result.{IfOk-weaker}
-use Rattle.pg_expr.specs.AtomSets.{contains}
+use Rattle.pg_expr.specs.work.AtomSets.{contains}
 use Rattle.eq_classes.specs.Parts.{is_base}
 use Rattle.scan_probes.proofs.PickedLemmas.{chosen-are as chosen_are}
 use Rattle.scan_exec.proofs.scene.Scene.base.Goals as goal

@@ -1,7 +1,7 @@
 use Rattle.std.proofs.Common.{◌∙◌, ap}
 use Rattle.std.proofs.lemmas.Result.{IfOk-weaker}
 use Rattle.pg_base.specs.Sets.{has}
-use Rattle.pg_expr.specs.AtomSets.{contains}
+use Rattle.pg_expr.specs.work.AtomSets.{contains}
 use Rattle.eq_classes.specs.Clauses.{ClassTable}
 use Rattle.path_cost.specs.Estimates.{conditions_from}
 use Rattle.plan_tree.proofs.ConditionLemmas.{names-listed}

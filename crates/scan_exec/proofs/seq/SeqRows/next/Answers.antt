@@ -1,8 +1,8 @@
 use Rattle.std.proofs.Common.{ap, sym, ◌∙◌}
-use Rattle.scan_probes.specs.Filters.{lent_conditions}
-use Rattle.scan_exec.specs.Kinds.{passes_row}
+use Rattle.scan_probes.specs.work.Filters.{lent_conditions}
+use Rattle.scan_exec.specs.work.Kinds.{passes_row}
 use Rattle.scan_exec.proofs.SeqLemmas.{row_ready, seq_on, seq_row, seq_rest, seq_exact, unlooked_from}
-use Rattle.scan_exec.specs.Coming.{looks_allowed}
+use Rattle.scan_exec.specs.work.Coming.{looks_allowed}
 use Rattle.scan_exec.proofs.seq.SeqRows.next.Goals as goal
 
 pub pass_row-requires : goal.pass_row-requires

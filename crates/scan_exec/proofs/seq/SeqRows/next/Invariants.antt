@@ -1,4 +1,4 @@
-use Rattle.scan_probes.specs.Filters.{lent_conditions}
+use Rattle.scan_probes.specs.work.Filters.{lent_conditions}
 use Rattle.scan_exec.proofs.SeqLemmas.{IsSeqDraw}
 use Rattle.scan_exec.proofs.seq.SeqRows.next.Given as goal
 

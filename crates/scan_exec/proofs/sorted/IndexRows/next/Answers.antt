@@ -1,7 +1,7 @@
 use Rattle.std.proofs.Common.{ap, sym, ◌∙◌, slice_get, Some}
-use Rattle.catalog.specs.Entries.{index_of}
-use Rattle.scan_probes.specs.Filters.{lent_conditions}
-use Rattle.scan_exec.specs.Kinds.{IsReadyEntry, entry_at, passes_entry, passes_row}
+use Rattle.catalog.specs.work.Entries.{index_of}
+use Rattle.scan_probes.specs.work.Filters.{lent_conditions}
+use Rattle.scan_exec.specs.work.Kinds.{IsReadyEntry, entry_at, passes_entry, passes_row}
 use Rattle.scan_exec.proofs.StepLemmas.{entry_fails, entry_rest, entry_row, onward_split, ready_behind, ready_entry, ready_first, ready_row, row_fails}
 use Rattle.scan_exec.proofs.sorted.IndexRows.next.Goals as goal
 

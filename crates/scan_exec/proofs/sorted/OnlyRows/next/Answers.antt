@@ -1,7 +1,7 @@
 use Rattle.std.proofs.Common.{ap, sym, ◌∙◌, Some, ap₂, Bool, ◌&&◌}
-use Rattle.catalog.specs.Entries.{index_of}
-use Rattle.scan_probes.specs.Filters.{lent_conditions}
-use Rattle.scan_exec.specs.Kinds.{IsReadyCover, covered_at, passes_entry}
+use Rattle.catalog.specs.work.Entries.{index_of}
+use Rattle.scan_probes.specs.work.Filters.{lent_conditions}
+use Rattle.scan_exec.specs.work.Kinds.{IsReadyCover, covered_at, passes_entry}
 use Rattle.scan_exec.proofs.StepLemmas.{cover_fails, cover_row, covered_owed, onward_split, ready_behind, ready_entry, ready_first}
 use Rattle.scan_exec.specs.Coming.{owed}
 use Rattle.scan_exec.proofs.sorted.OnlyRows.next.Goals as goal

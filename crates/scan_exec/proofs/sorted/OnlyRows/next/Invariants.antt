@@ -1,7 +1,7 @@
 use Rattle.std.proofs.Common.{All, length, map}
-use Rattle.catalog.specs.Entries.{index_of}
-use Rattle.scan_probes.specs.Filters.{lent_conditions}
-use Rattle.scan_exec.specs.Kinds.{IsReadyCover, covered_at}
+use Rattle.catalog.specs.work.Entries.{index_of}
+use Rattle.scan_probes.specs.work.Filters.{lent_conditions}
+use Rattle.scan_exec.specs.work.Kinds.{IsReadyCover, covered_at}
 use Rattle.scan_exec.proofs.DrawLemmas.{IsOnward}
 use Rattle.scan_exec.proofs.sorted.OnlyRows.next.Given as goal
 

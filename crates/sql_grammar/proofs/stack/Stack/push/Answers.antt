@@ -1,5 +1,5 @@
 use Rattle.std.proofs.Common.{arith, ap, ◌∙◌}
-use Rattle.sql_grammar.specs.Machine.{depth_of}
+use Rattle.sql_grammar.specs.work.Machine.{depth_of}
 use Rattle.sql_grammar.proofs.Room.{depth-length}
 use Rattle.sql_grammar.proofs.stack.Stack.push.Goals as goal
 

@@ -1,6 +1,6 @@
 use Rattle.std.proofs.Common.{◌≡◌, ℕ, ◌≤◌, length}
 use Rattle.pg_base.specs.declared.limits.TheConstants.{MOST_LEVELS}
-use Rattle.sql_grammar.specs.Machine.{depth_of, step_of, may_end, Fits}
+use Rattle.sql_grammar.specs.work.Machine.{depth_of, step_of, may_end, Fits}
 use Rattle.sql_grammar.proofs.stack.Stack.step.Given as goal
 
 abbrev pub invariant-loop-item : goal.invariant-loop-item

@@ -1,9 +1,9 @@
 use Rattle.std.proofs.Common.{◌≡◌, ◌∙◌, ap, sym}
 use Rattle.std.proofs.lemmas.Result.{on_ok_weaker}
-use Rattle.btree_index.specs.Tree.{with_entries}
-use Rattle.hash_index.specs.Held.{with_held}
-use Rattle.catalog.specs.Entries.{index_of}
-use Rattle.store.specs.View.{built}
+use Rattle.btree_index.specs.work.Tree.{with_entries}
+use Rattle.hash_index.specs.work.Held.{with_held}
+use Rattle.catalog.specs.work.Entries.{index_of}
+use Rattle.store.specs.work.View.{built}
 use Rattle.store.proofs.BuiltLemmas.{sorted-fits, sorted-grown, hashed-fits, hashed-grown}
 use Rattle.store.proofs.built.BuiltIndex.add_rows.Goals as goal
 

@@ -1,4 +1,4 @@
-use Rattle.catalog.specs.Entries.{index_of}
+use Rattle.catalog.specs.work.Entries.{index_of}
 use Rattle.store.proofs.FitLemmas.{hash-builds}
 use Rattle.store.proofs.built.BuiltIndex.empty.Goals as goal
 

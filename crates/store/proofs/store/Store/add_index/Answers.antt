@@ -1,11 +1,12 @@
 use Rattle.std.proofs.Common.{◌≡◌, ◌≤◌, ◌+◌, ◌∙◌, ◌∷◌, [], ap, length, map, subst, sym}
 use Rattle.std.proofs.lemmas.List.{map-append}
 use Rattle.heap.specs.Stored.{Stored}
-use Rattle.catalog.specs.Contents.{index_at, indexes_before}
-use Rattle.catalog.specs.Entries.{index_of}
+use Rattle.catalog.specs.Contents.{index_at}
+use Rattle.catalog.specs.work.Contents.{indexes_before}
+use Rattle.catalog.specs.work.Entries.{index_of}
 use Rattle.catalog.specs.Indexes.{Index}
-use Rattle.store.specs.Kept.{IsStoreOf}
-use Rattle.store.specs.View.{built}
+use Rattle.store.specs.work.Kept.{IsStoreOf}
+use Rattle.store.specs.work.View.{built}
 use Rattle.store.proofs.StoreLemmas.{added-lawful, heap-is, index-added, table-within}
 use Rattle.store.proofs.store.Store.add_index.Goals as goal
 

@@ -1,12 +1,13 @@
 use Rattle.std.proofs.Common.{◌≡◌, ◌≤◌, ◌+◌, ◌-◌, ◌*◌, ◌∙◌, ℕ, Ok, ap, arith, get_or, length, map, refl, set, subst, sym, take}
 use Rattle.std.proofs.lemmas.Option.{get_or_from_slice_get}
 use Rattle.std.proofs.lemmas.Result.{err_from_is_err_and}
-use Rattle.heap.specs.Loading.{NamesColumnOf, loaded, records_of}
+use Rattle.heap.specs.Loading.{loaded, records_of}
+use Rattle.heap.specs.work.Loading.{NamesColumnOf}
 use Rattle.heap.specs.Stored.{Stored}
 use Rattle.catalog.specs.Contents.{indexes_of}
 use Rattle.sql_query.specs.Worlds.{nothing_stored}
-use Rattle.store.specs.Kept.{IsStoreOf, stored_of}
-use Rattle.store.specs.View.{built}
+use Rattle.store.specs.work.Kept.{IsStoreOf, stored_of}
+use Rattle.store.specs.work.View.{built}
 use Rattle.store.proofs.GrowthLemmas.{at_err}
 use Rattle.pg_value.proofs.SortByLemmas.{at_ok}
 use Rattle.store.proofs.StoreLemmas.{built-before, heap-is, inside, no-fewer, not-loaded, on-err, others-kept, put-back, same-columns, still-inside, store-after, taken-back, there, what-is-there}

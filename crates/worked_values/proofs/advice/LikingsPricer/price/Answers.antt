@@ -1,5 +1,5 @@
 use Rattle.std.proofs.Common.{Some, ap}
-use Rattle.worked_values.specs.Likings.{liked-between}
+use Rattle.worked_values.specs.work.Likings.{liked-between}
 use Rattle.worked_values.proofs.advice.LikingsPricer.price.Goals as goal
 
 pub returns-clause-price : goal.returns-clause-price

@@ -1,0 +1,9 @@
+pub mod Figures
+pub mod Keys
+pub mod Kinds
+pub mod Nodes
+pub mod Parts
+pub mod Reading
+pub mod Scans
+pub mod Sets
+pub mod Trees

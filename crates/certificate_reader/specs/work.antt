@@ -1,0 +1,3 @@
+pub mod Parts
+pub mod Passed
+pub mod Reading

@@ -1,0 +1,5 @@
+pub mod Days
+pub mod Forms
+pub mod Numerics
+pub mod Shown
+pub mod Times

@@ -1,0 +1,5 @@
+pub mod Making
+pub mod Owning
+pub mod Parts
+pub mod Telling
+pub mod Working

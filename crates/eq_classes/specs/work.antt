@@ -1,0 +1,7 @@
+pub mod Building
+pub mod Clauses
+pub mod Equality
+pub mod Grouping
+pub mod Holding
+pub mod Listing
+pub mod Parts

@@ -1,0 +1,9 @@
+pub mod AtState
+pub mod Drawn
+pub mod EState
+pub mod Good
+pub mod Node
+pub mod Numbers
+pub mod Pairs
+pub mod Probe
+pub mod Reading

@@ -1,0 +1,11 @@
+pub mod Conditions
+pub mod Counts
+pub mod Expressions
+pub mod Literals
+pub mod Parted
+pub mod Places
+pub mod Reading
+pub mod Reads
+pub mod Scope
+pub mod Sorts
+pub mod Written

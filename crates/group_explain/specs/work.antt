@@ -1,0 +1,3 @@
+pub mod GroupPlans
+pub mod Plans
+pub mod Texts

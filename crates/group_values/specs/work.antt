@@ -1,0 +1,10 @@
+pub mod Chains
+pub mod Choice
+pub mod GroupCosts
+pub mod Grouping
+pub mod Groups
+pub mod Hash
+pub mod Listing
+pub mod Neighbours
+pub mod Places
+pub mod Steps

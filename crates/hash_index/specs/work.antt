@@ -1,0 +1,4 @@
+pub mod Chains
+pub mod Groups
+pub mod Hash
+pub mod Held

@@ -1,0 +1,5 @@
+pub mod Lending
+pub mod Loading
+pub mod Stored
+pub mod TidSets
+pub mod Tuples

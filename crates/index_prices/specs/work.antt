@@ -1,0 +1,4 @@
+pub mod PriceLaws
+pub mod Prices
+pub mod Proposals
+pub mod Quotes

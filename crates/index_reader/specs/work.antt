@@ -1,0 +1,9 @@
+pub mod AdviseCandidates
+pub mod AdviseSoundness
+pub mod AdviseStatements
+pub mod Candidates
+pub mod Meaning
+pub mod Reads
+pub mod Soundness
+pub mod Statements
+pub mod Walk

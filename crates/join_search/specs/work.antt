@@ -1,0 +1,10 @@
+pub mod Joins
+pub mod Merges
+pub mod Nests
+pub mod Offers
+pub mod Outcomes
+pub mod Past
+pub mod Search
+pub mod Splits
+pub mod Sufficing
+pub mod Tables

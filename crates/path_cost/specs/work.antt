@@ -1,0 +1,9 @@
+pub mod Columns
+pub mod Cut
+pub mod Estimates
+pub mod Known
+pub mod Limits
+pub mod Ranges
+pub mod Relations
+pub mod Runs
+pub mod Selectivity

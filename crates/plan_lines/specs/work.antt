@@ -1,0 +1,9 @@
+pub mod Behind
+pub mod Finding
+pub mod Kinds
+pub mod Lines
+pub mod Parts
+pub mod Scans
+pub mod TitleKinds
+pub mod Trees
+pub mod Words

@@ -1,0 +1,9 @@
+pub mod Elements
+pub mod Judging
+pub mod MergeLists
+pub mod Numbered
+pub mod OrderKeys
+pub mod Ordered
+pub mod Parts
+pub mod PlanKeys
+pub mod Sorts

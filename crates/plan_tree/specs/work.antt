@@ -1,0 +1,14 @@
+pub mod Bitmaps
+pub mod Costable
+pub mod Costs
+pub mod Fronts
+pub mod Gathering
+pub mod Held
+pub mod Least
+pub mod Lists
+pub mod Paths
+pub mod Ranks
+pub mod Reads
+pub mod Sorted
+pub mod Space
+pub mod Views

@@ -1,0 +1,4 @@
+pub mod Bases
+pub mod Finishing
+pub mod Near
+pub mod Priced

@@ -1,0 +1,4 @@
+pub mod Atoms
+pub mod Derivation
+pub mod Notes
+pub mod Rows

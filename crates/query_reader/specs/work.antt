@@ -1,0 +1,12 @@
+pub mod Adds
+pub mod Binding
+pub mod Conveys
+pub mod Ends
+pub mod From
+pub mod Joins
+pub mod Order
+pub mod Parts
+pub mod Reads
+pub mod Scope
+pub mod Select
+pub mod Wanted

@@ -1,0 +1,5 @@
+pub mod Arms
+pub mod Covering
+pub mod Limits
+pub mod Scanning
+pub mod Trees

@@ -1,0 +1,4 @@
+pub mod Filters
+pub mod Probes
+pub mod Scenes
+pub mod Values

@@ -1,0 +1,4 @@
+pub mod Actions
+pub mod Growth
+pub mod Kept
+pub mod View

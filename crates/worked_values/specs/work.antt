@@ -1,0 +1,3 @@
+pub mod Likings
+pub mod Offers
+pub mod Worked

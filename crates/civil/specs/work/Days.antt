@@ -30,13 +30,15 @@ number_of_day x = cond (is_day x) (Some (day_number x)) None
 abbrev pub is_date_number : ℤ → Bool
 is_date_number n = is_le (int_cmp (neg_ℤ (pos 730_119)) n) && is_le (int_cmp n (pos 2_921_939))
 
--- the days of a month, of a year, and of the years 1 to 9999, in order
+-- the days of a month, in order
 abbrev pub days_of_month : ℕ → ℕ → List Day
 days_of_month y m = map (day_with y m) (range_with_len 1 (days_in_month (pos y) m))
 
+-- the days of a year, in order
 abbrev pub days_of_year : ℕ → List Day
 days_of_year y = flat_map (days_of_month y) (range_with_len 1 12)
 
+-- the days of the years 1 to 9999, in order
 unfoldable pub all_days : List Day
 all_days = flat_map days_of_year (range_with_len 1 9999)
 

@@ -11,10 +11,11 @@ use Rattle.civil.specs.work.Times.{formed, ranged}
 abbrev pub is_numeral : List ℕ → Bool
 is_numeral ds = nat_lt 0 (length ds) && list_all is_ascii_digit ds
 
--- the digits that a text begins with, and what stands behind them
+-- the digits that a text begins with
 abbrev pub whole_part : List ℕ → List ℕ
 whole_part text = take (prefix_len is_ascii_digit text) text
 
+-- what stands behind the digits that a text begins with
 abbrev pub behind_whole : List ℕ → List ℕ
 behind_whole text = drop (prefix_len is_ascii_digit text) text
 

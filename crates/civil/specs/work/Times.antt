@@ -31,10 +31,11 @@ is_date_text = has_form (codes "DDDD-DD-DD")
 abbrev pub date_value : List ℕ → Result ℤ Unread
 date_value text = formed (is_date_text text) (ranged (is_day (day_in text)) (day_number (day_in text)))
 
--- the forms of a time with a fraction of a second, and of all times
+-- the forms of a time with a fraction of a second
 abbrev pub fraction_forms : List (List ℕ)
 fraction_forms = codes "DD:DD:DD.D" ∷ codes "DD:DD:DD.DD" ∷ codes "DD:DD:DD.DDD" ∷ codes "DD:DD:DD.DDDD" ∷ codes "DD:DD:DD.DDDDD" ∷ codes "DD:DD:DD.DDDDDD" ∷ []
 
+-- the forms of a time
 abbrev pub time_forms : List (List ℕ)
 time_forms = codes "DD:DD" ∷ codes "DD:DD:DD" ∷ fraction_forms
 
@@ -95,10 +96,11 @@ is_of_time c = is_ascii_digit c || (nat_eq c 58 || nat_eq c 46)
 abbrev pub offset_place : List ℕ → ℕ
 offset_place text = 11 + prefix_len is_of_time (drop 11 text)
 
--- a text without its offset, and the offset
+-- a text without its offset
 abbrev pub without_offset : List ℕ → List ℕ
 without_offset text = take (offset_place text) text
 
+-- the offset of a text
 abbrev pub offset_of : List ℕ → List ℕ
 offset_of text = drop (offset_place text) text
 

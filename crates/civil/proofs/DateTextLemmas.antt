@@ -6,10 +6,10 @@ use Rattle.std.proofs.lemmas.List.{append-nil}
 use Rattle.jiff_core.specs.Calendar.{day_count, days_in_month}
 use Rattle.jiff_core.proofs.CalendarLemmas.{day_count-day, day_count-end, day_count-last_of_year, day_count-next_month, day_count-next_year, days_from_civil-day_count, days_in_month_bounds}
 use Rattle.jiff_core.proofs.SignedLemmas.{signed_arith}
-use Rattle.civil.specs.work.Days.{Day, day_number, day_with, is_date_number, is_day}
-use Rattle.civil.specs.work.Forms.{has_form, number_at}
-use Rattle.civil.specs.work.Shown.{date_text_of, day_text, figures}
-use Rattle.civil.specs.work.Times.{date_value, day_in, formed, is_date_text, ranged}
+use Rattle.civil.specs.Days.{Day, day_number, day_with, is_date_number, is_day}
+use Rattle.civil.specs.Forms.{has_form, number_at}
+use Rattle.civil.specs.Shown.{date_text_of, day_text, figures}
+use Rattle.civil.specs.Times.{date_value, day_in, formed, is_date_text, ranged}
 use Rattle.civil.proofs.FigureLemmas.{figure-digit, figures-of}
 use Rattle.civil.proofs.NumberedLemmas.{IsInCalendar, at-least, first-count, from-parts, in-calendar, numbered}
 

@@ -9,8 +9,9 @@ use Rattle.std.proofs.lemmas.Int.{ints, to_z-of_z}
 use Rattle.jiff_core.specs.declared.civil.date.Date.{Date}
 use Rattle.jiff_core.specs.Calendar.{IsDate, IsEpochDay, days_from_civil, days_in_month}
 use Rattle.jiff_core.specs.Date.{epoch_day, IsYmd}
-use Rattle.civil.specs.work.Days.{day_with, is_day, day_number, number_of_day}
-use Rattle.civil.specs.work.Times.{is_date_text}
+use Rattle.civil.specs.Days.{day_with, is_day, day_number}
+use Rattle.civil.specs.work.Days.{number_of_day}
+use Rattle.civil.specs.Times.{is_date_text}
 use Rattle.civil.proofs.FormLemmas.{digits-at, form-length}
 
 pub there : (y m d : ℕ) → 1 ≤ y → IsDate (pos y) (pos m) (pos d) → is_day (day_with y m d) ≡ true

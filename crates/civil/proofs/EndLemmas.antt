@@ -8,10 +8,10 @@ use Rattle.jiff_core.proofs.DateLemmas.{days_from_civil-max}
 use Rattle.jiff_core.proofs.SignedLemmas.{signed_arith}
 use Rattle.jiff_core.proofs.StandardFacts.{known_days}
 use Rattle.civil.specs.declared.unread.Unread.{Unread}
-use Rattle.civil.specs.work.Days.{day_number, day_with, is_date_number}
-use Rattle.civil.specs.work.Numerics.{is_numeric_number, numeric_value}
-use Rattle.civil.specs.work.Shown.{date_text_of, day_text, figures, numeric_text_of, short_figures, timestamp_text_of, timestamptz_text_of}
-use Rattle.civil.specs.work.Times.{date_value, is_instant, timestamp_value, timestamptz_value}
+use Rattle.civil.specs.Days.{day_number, day_with, is_date_number}
+use Rattle.civil.specs.Numerics.{is_numeric_number, numeric_value}
+use Rattle.civil.specs.Shown.{date_text_of, day_text, figures, numeric_text_of, short_figures, timestamp_text_of, timestamptz_text_of}
+use Rattle.civil.specs.Times.{date_value, is_instant, timestamp_value, timestamptz_value}
 use Rattle.civil.proofs.DateTextLemmas.{date-back}
 use Rattle.civil.proofs.NumberedLemmas.{first-count, numbered}
 use Rattle.civil.proofs.NumericTextLemmas.{numeric-back}

@@ -8,7 +8,7 @@ use Rattle.std.proofs.lemmas.Bool.Decides.{nat_tests}
 use Rattle.std.proofs.lemmas.List.Folds.{list_all-append}
 use Rattle.std.proofs.lemmas.Nat.{div-add-mod', mod-mul-add}
 use Rattle.std.proofs.Math.Nat.{mod-eq_of_lt, mod-lt, pow-suc}
-use Rattle.civil.specs.work.Shown.{figures}
+use Rattle.civil.specs.Shown.{figures}
 use Rattle.civil.proofs.FormLemmas.{digit-is, ten-above}
 
 -- a figure is a digit

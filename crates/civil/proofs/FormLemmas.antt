@@ -11,7 +11,7 @@ use native.Mathlib.Nat.{pow-le-pow_right}
 use Rattle.std.specs.Char.{is_ascii_digit, is_ascii_hexdigit, digit_value}
 use Rattle.std.specs.List.{list_all}
 use Rattle.std.specs.Str.Parse.{digits_value, AllDigits}
-use Rattle.civil.specs.work.Forms.{fraction, has_form, number_at, stands_for}
+use Rattle.civil.specs.Forms.{fraction, has_form, number_at, stands_for}
 
 pub form-length : (form text : List ℕ) → has_form form text ≡ true → length form ≡ length text
 unfolding has_form

@@ -13,7 +13,7 @@ use Rattle.jiff_core.proofs.CalendarLemmas.{day_count-lt_year, days_from_civil-d
 use Rattle.jiff_core.proofs.DateLemmas.{civil, epoch_day_injective}
 use Rattle.jiff_core.proofs.MarchLemmas.{day_count-early}
 use Rattle.jiff_core.proofs.SignedLemmas.{back_small, one_part, signed_arith}
-use Rattle.civil.specs.work.Days.{Day, all_days, day_number, day_numbered, day_with, days_of_month, days_of_year, is_date_number, is_day}
+use Rattle.civil.specs.Days.{Day, all_days, day_number, day_numbered, day_with, days_of_month, days_of_year, is_date_number, is_day}
 
 -- a test that some element of a list passes
 any-here : (p : ℕ → Bool) (a n k : ℕ) → a ≤ k → k < a + n → p k ≡ true → list_any p (range_with_len a n) ≡ true

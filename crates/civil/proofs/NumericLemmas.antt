@@ -2,7 +2,7 @@
 use Rattle.std.proofs.Common.{◌≡◌, ℕ, ◌<◌, ◌≤◌, ◌^◌, true, ◌&&◌, ap, ◌∙◌, arith}
 use Rattle.std.specs.Prelude.{nat_le}
 use Rattle.std.proofs.lemmas.Bool.{and_parts, leb-true}
-use Rattle.civil.specs.work.Numerics.{is_size}
+use Rattle.civil.specs.Numerics.{is_size}
 use Rattle.civil.proofs.FormLemmas.{ten-fits}
 
 -- a type has at most 18 digits

@@ -11,10 +11,10 @@ use Rattle.std.proofs.lemmas.Fmt.{decimal_is_IsNumeral}
 use Rattle.std.proofs.lemmas.Nat.{div-add-mod'}
 use Rattle.std.proofs.Math.Nat.{div-le_self}
 use Rattle.std.proofs.Math.Seq.{drop-append_seam, take-append_seam}
-use Rattle.civil.specs.work.Forms.{fraction, signed}
-use Rattle.civil.specs.work.Numerics.{behind_whole, fraction_digits, is_decimal, is_fraction, is_in, is_nought, is_numeral, is_numeric_number, is_size, numeric_value, scaled, whole_part}
-use Rattle.civil.specs.work.Shown.{figures, numeric_text_of, size_text}
-use Rattle.civil.specs.work.Times.{formed, ranged}
+use Rattle.civil.specs.Forms.{fraction, signed}
+use Rattle.civil.specs.Numerics.{behind_whole, fraction_digits, is_decimal, is_fraction, is_in, is_nought, is_numeral, is_numeric_number, is_size, numeric_value, scaled, whole_part}
+use Rattle.civil.specs.Shown.{figures, numeric_text_of, size_text}
+use Rattle.civil.specs.Times.{formed, ranged}
 use Rattle.civil.proofs.FigureLemmas.{figures-digits, figures-value}
 use Rattle.civil.proofs.FormLemmas.{ten-fits}
 use Rattle.civil.proofs.NumericLemmas.{most-digits}

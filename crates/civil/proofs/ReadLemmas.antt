@@ -9,10 +9,10 @@ use Rattle.std.proofs.lemmas.Int.{by_lt_z, ints}
 use Rattle.jiff_core.specs.Calendar.{IsCivilDate, day_count}
 use Rattle.jiff_core.proofs.CalendarLemmas.{day_count_bounds, day_count-day_of_year, day_count-later_year, days_from_civil-day_count}
 use Rattle.jiff_core.proofs.SignedLemmas.{signed_arith}
-use Rattle.civil.specs.work.Days.{Day, day_number, is_date_number, is_day}
-use Rattle.civil.specs.work.Forms.{has_a_form, number_at, signed}
-use Rattle.civil.specs.work.Numerics.{fraction_digits, is_decimal, is_in, is_nought, is_numeric_number, is_size, numeric_value, scaled}
-use Rattle.civil.specs.work.Times.{clock_micros, date_value, day_in, formed, has_instant, instant, is_clock, is_date_text, is_instant, is_moment, is_offset, is_timestamp_text, moment, offset_forms, offset_of, ranged, timestamp_value, timestamptz_value, without_offset}
+use Rattle.civil.specs.Days.{Day, day_number, is_date_number, is_day}
+use Rattle.civil.specs.Forms.{has_a_form, number_at, signed}
+use Rattle.civil.specs.Numerics.{fraction_digits, is_decimal, is_in, is_nought, is_numeric_number, is_size, numeric_value, scaled}
+use Rattle.civil.specs.Times.{clock_micros, date_value, day_in, formed, has_instant, instant, is_clock, is_date_text, is_instant, is_moment, is_offset, is_timestamp_text, moment, offset_forms, offset_of, ranged, timestamp_value, timestamptz_value, without_offset}
 use Rattle.civil.proofs.FormLemmas.{below-one}
 use Rattle.civil.proofs.NumberedLemmas.{at-least, first-count, in-calendar}
 use Rattle.civil.proofs.TimeLemmas.{IsTimeShaped, time-of-text}

@@ -3,9 +3,10 @@ use Rattle.std.proofs.Common.{◌≡◌, ℕ, ◌+◌, ◌*◌, ◌<◌, ◌≤�
 use Rattle.std.proofs.lemmas.Bool.{and_from, and_parts}
 use Rattle.std.proofs.lemmas.Int.{to_z_pos}
 use Rattle.jiff_core.proofs.SignedLemmas.{back_small, one_part, product_within, signed_arith}
-use Rattle.civil.specs.work.Days.{day_number, is_date_number, is_day, number_of_day}
-use Rattle.civil.specs.work.Forms.{has_a_form, signed}
-use Rattle.civil.specs.work.Times.{day_in, day_micros, formed, has_instant, instant, instant_value, is_instant, is_moment, is_offset, is_timestamp_text, offset_forms, ranged}
+use Rattle.civil.specs.Days.{day_number, is_date_number, is_day}
+use Rattle.civil.specs.work.Days.{number_of_day}
+use Rattle.civil.specs.Forms.{has_a_form, signed}
+use Rattle.civil.specs.Times.{day_in, day_micros, formed, has_instant, instant, instant_value, is_instant, is_moment, is_offset, is_timestamp_text, offset_forms, ranged}
 use Rattle.civil.specs.declared.unread.Unread.TheVariants.{Range}
 use Rattle.civil.proofs.NumberedLemmas.{at-least}
 use Rattle.civil.proofs.ReadLemmas.{day-bound}

@@ -3,9 +3,10 @@ use Rattle.std.proofs.Common.{subst, ◌≡◌, ℕ, Bool, true, false, true≢f
 use Rattle.std.specs.Char.{is_ascii_digit}
 use Rattle.std.specs.List.{list_all}
 use Rattle.std.proofs.lemmas.Bool.{and_parts, and_from}
-use Rattle.civil.specs.work.Days.{day_number, is_day, number_of_day}
-use Rattle.civil.specs.work.Forms.{has_form, has_a_form}
-use Rattle.civil.specs.work.Times.{clock_micros, day_in, day_micros, has_instant, instant, is_between, is_clock, is_instant, is_moment, is_offset, is_time_part, is_timestamp_text, is_date_text, moment, offset_forms, offset_micros, time_forms}
+use Rattle.civil.specs.Days.{day_number, is_day}
+use Rattle.civil.specs.work.Days.{number_of_day}
+use Rattle.civil.specs.Forms.{has_form, has_a_form}
+use Rattle.civil.specs.Times.{clock_micros, day_in, day_micros, has_instant, instant, is_between, is_clock, is_instant, is_moment, is_offset, is_time_part, is_timestamp_text, is_date_text, moment, offset_forms, offset_micros, time_forms}
 use Rattle.civil.proofs.FormLemmas.{digits-at, digits-behind, is_for_digit}
 
 -- a value that was kept by a test, and none

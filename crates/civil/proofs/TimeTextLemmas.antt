@@ -11,10 +11,10 @@ use Rattle.std.proofs.lemmas.List.Folds.{list_all-append, list_any_at}
 use Rattle.std.proofs.Math.Nat.{pow-suc}
 use Rattle.std.proofs.Math.Seq.{drop-append_seam, take-append_seam}
 use Rattle.jiff_core.proofs.SignedLemmas.{int_div_euclid-parts, int_rem_euclid-parts, one_part, signed_arith}
-use Rattle.civil.specs.work.Days.{Day, day_number, is_date_number, is_day}
-use Rattle.civil.specs.work.Forms.{fraction, has_a_form, has_form, number_at}
-use Rattle.civil.specs.work.Shown.{day_text, figures, fraction_text, short_figures, time_text, timestamp_text_of, timestamptz_text_of}
-use Rattle.civil.specs.work.Times.{clock_micros, day_in, day_micros, formed, has_instant, instant, instant_value, is_clock, is_date_text, is_instant, is_moment, is_of_time, is_time_part, is_timestamp_text, moment, offset_of, offset_place, ranged, time_forms, timestamp_value, timestamptz_value, without_offset}
+use Rattle.civil.specs.Days.{Day, day_number, is_date_number, is_day}
+use Rattle.civil.specs.Forms.{fraction, has_a_form, has_form, number_at}
+use Rattle.civil.specs.Shown.{day_text, figures, fraction_text, short_figures, time_text, timestamp_text_of, timestamptz_text_of}
+use Rattle.civil.specs.Times.{clock_micros, day_in, day_micros, formed, has_instant, instant, instant_value, is_clock, is_date_text, is_instant, is_moment, is_of_time, is_time_part, is_timestamp_text, moment, offset_of, offset_place, ranged, time_forms, timestamp_value, timestamptz_value, without_offset}
 use Rattle.civil.proofs.DateTextLemmas.{HasDay, day-there, text-day, text-form, text_of}
 use Rattle.civil.proofs.FigureLemmas.{figure-digit, figures-digits, figures-of}
 use Rattle.civil.proofs.NumberedLemmas.{at-least, in-calendar, numbered}

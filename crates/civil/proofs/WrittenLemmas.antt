@@ -6,7 +6,7 @@ use Rattle.std.proofs.lemmas.Bool.{ne_eqb}
 use Rattle.std.proofs.lemmas.List.{append-nil}
 use Rattle.std.proofs.lemmas.Fmt.{decimal_digit, decimal_step, length-decimal-le}
 use Rattle.std.proofs.Math.Nat.{div-le_self}
-use Rattle.civil.specs.work.Shown.{figures, short_figures}
+use Rattle.civil.specs.Shown.{figures, short_figures}
 
 pub length-figures : (count n : ℕ) → length (figures count n) ≡ count
 unfolding figures

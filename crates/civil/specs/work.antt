@@ -1,5 +1,1 @@
 pub mod Days
-pub mod Forms
-pub mod Numerics
-pub mod Shown
-pub mod Times

@@ -1,8 +1,9 @@
 //! Dates.
 
 ghost use Rattle.std.specs.Prelude.{◌≡◌, ◌≤◌, true, take};
-ghost use Rattle.civil.specs.work.Days.{day_with, number_of_day};
-ghost use Rattle.civil.specs.work.Times.{date_value, day_in, is_date_text};
+ghost use Rattle.civil.specs.Days.{day_with};
+ghost use Rattle.civil.specs.work.Days.{number_of_day};
+ghost use Rattle.civil.specs.Times.{date_value, day_in, is_date_text};
 
 use crate::forms::{fits, number_in};
 use crate::unread::Unread;

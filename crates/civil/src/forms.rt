@@ -4,7 +4,7 @@ ghost use Rattle.std.specs.Prelude.{◌≡◌, ◌≤◌, ◌<◌, ◌-◌, ◌^
 ghost use Rattle.std.specs.Char.{is_ascii_digit};
 ghost use Rattle.std.specs.List.{list_all};
 ghost use Rattle.std.specs.Str.Parse.{digits_value, starts_with_minus};
-ghost use Rattle.civil.specs.work.Forms.{fraction, has_form, is_uuid_text, number_at, signed, stands_for};
+ghost use Rattle.civil.specs.Forms.{fraction, has_form, is_uuid_text, number_at, signed, stands_for};
 
 /// A character is one that a form's character stands for.
 fn is_at(form: u8, byte: u8) -> bool

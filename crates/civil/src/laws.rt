@@ -1,10 +1,10 @@
 //! Laws of what is read and what is printed.
 
 ghost use Rattle.std.specs.Prelude.{◌≡◌, ℕ, List, codes, ℤ, pos, neg_ℤ, Ok, true};
-ghost use Rattle.civil.specs.work.Days.{is_date_number};
-ghost use Rattle.civil.specs.work.Numerics.{is_numeric_number, numeric_value};
-ghost use Rattle.civil.specs.work.Shown.{date_text_of, numeric_text_of, timestamp_text_of, timestamptz_text_of};
-ghost use Rattle.civil.specs.work.Times.{date_value, is_instant, timestamp_value, timestamptz_value};
+ghost use Rattle.civil.specs.Days.{is_date_number};
+ghost use Rattle.civil.specs.Numerics.{is_numeric_number, numeric_value};
+ghost use Rattle.civil.specs.Shown.{date_text_of, numeric_text_of, timestamp_text_of, timestamptz_text_of};
+ghost use Rattle.civil.specs.Times.{date_value, is_instant, timestamp_value, timestamptz_value};
 
 /// What a text spells is a value of its type.
 pub fn values_are_in_range()

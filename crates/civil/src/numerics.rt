@@ -4,7 +4,7 @@ ghost use Rattle.std.specs.Prelude.{◌≡◌, ◌<◌, ◌^◌, true, cond, IfS
 ghost use Rattle.std.specs.Char.{is_ascii_digit};
 ghost use Rattle.std.specs.List.{list_all, prefix_len};
 ghost use Rattle.std.specs.Str.Parse.{without_leading_sign};
-ghost use Rattle.civil.specs.work.Numerics.{is_decimal, is_fraction, is_in, is_nought, is_numeral, numeric_value, scaled};
+ghost use Rattle.civil.specs.Numerics.{is_decimal, is_fraction, is_in, is_nought, is_numeral, numeric_value, scaled};
 
 use crate::forms::{behind, fraction_of, is_negative, number_of, ten_to, up_to, with_sign};
 use crate::ranges::has_size;

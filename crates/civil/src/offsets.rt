@@ -1,8 +1,8 @@
 //! Offsets from UTC, and timestamps with time zone.
 
 ghost use Rattle.std.specs.Prelude.{◌≡◌, ◌≤ℤ◌, pos, neg_ℤ, true, cond, IfSome, Some, None};
-ghost use Rattle.civil.specs.work.Forms.{has_a_form};
-ghost use Rattle.civil.specs.work.Times.{has_instant, instant, instant_value, is_of_time, is_offset, is_timestamp_text, offset_forms, offset_micros, offset_place, timestamptz_value};
+ghost use Rattle.civil.specs.Forms.{has_a_form};
+ghost use Rattle.civil.specs.Times.{has_instant, instant, instant_value, is_of_time, is_offset, is_timestamp_text, offset_forms, offset_micros, offset_place, timestamptz_value};
 
 use crate::forms::{behind, fits, is_negative, up_to, with_sign};
 use crate::ranges::is_instant;

@@ -1,10 +1,10 @@
 //! The whole numbers that are dates, instants and numerics.
 
 ghost use Rattle.std.specs.Prelude.{◌≡◌, ◌≤◌, ◌-◌, ◌^◌, ℕ, min, nat_lt};
-ghost use Rattle.civil.specs.work.Days.{is_date_number};
-ghost use Rattle.civil.specs.work.Forms.{signed};
-ghost use Rattle.civil.specs.work.Numerics.{is_numeric_number, is_size, whole_numeric_of};
-ghost use Rattle.civil.specs.work.Times as times;
+ghost use Rattle.civil.specs.Days.{is_date_number};
+ghost use Rattle.civil.specs.Forms.{signed};
+ghost use Rattle.civil.specs.Numerics.{is_numeric_number, is_size, whole_numeric_of};
+ghost use Rattle.civil.specs.Times as times;
 
 use crate::forms::{ten_to, with_sign};
 

@@ -1,9 +1,9 @@
 //! The texts of dates, timestamps and numerics.
 
 ghost use Rattle.std.specs.Prelude.{◌≡◌, ◌≤◌, ◌+◌, ◌++◌, length, Some, true};
-ghost use Rattle.civil.specs.work.Days.{day_numbered, day_with, is_date_number};
-ghost use Rattle.civil.specs.work.Times.{is_instant};
-ghost use Rattle.civil.specs.work.Shown.{date_text_of, fraction_text, numeric_text_of, size_text, time_text, timestamp_text_of, timestamptz_text_of};
+ghost use Rattle.civil.specs.Days.{day_numbered, day_with, is_date_number};
+ghost use Rattle.civil.specs.Times.{is_instant};
+ghost use Rattle.civil.specs.Shown.{date_text_of, fraction_text, numeric_text_of, size_text, time_text, timestamp_text_of, timestamptz_text_of};
 
 use crate::dates::DAYS_TO_2000;
 use crate::forms::ten_to;

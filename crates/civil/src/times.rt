@@ -3,8 +3,8 @@
 ghost use Rattle.std.specs.Prelude.{◌≡◌, ◌≤◌, ◌<◌, ◌≤ℤ◌, pos, neg_ℤ, nat_le, true, cond, take, drop, IfSome, Some, None};
 ghost use Rattle.std.specs.Char.{is_ascii_digit};
 ghost use Rattle.std.specs.List.{list_all};
-ghost use Rattle.civil.specs.work.Forms.{has_a_form, number_at};
-ghost use Rattle.civil.specs.work.Times.{clock_micros, fraction_forms, is_clock, is_moment, is_time_part, is_timestamp_text, moment, time_forms, timestamp_value};
+ghost use Rattle.civil.specs.Forms.{has_a_form, number_at};
+ghost use Rattle.civil.specs.Times.{clock_micros, fraction_forms, is_clock, is_moment, is_time_part, is_timestamp_text, moment, time_forms, timestamp_value};
 
 use crate::dates::{day_of, has_date};
 use crate::forms::{behind, fits, fraction_of, number_in, up_to};

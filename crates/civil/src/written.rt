@@ -2,7 +2,7 @@
 
 ghost use Rattle.std.specs.Prelude.{◌≡◌, ◌≤◌, ◌<◌, ◌+◌, [], ◌∷◌, ◌++◌, length};
 ghost use Rattle.std.specs.Fmt.{decimal};
-ghost use Rattle.civil.specs.work.Shown.{figures, short_figures};
+ghost use Rattle.civil.specs.Shown.{figures, short_figures};
 
 use std::marker::Model;
 

@@ -29,14 +29,17 @@ implied false b h is = absurd (true≢false (sym is))
 abbrev pub all_operators : List Op
 all_operators = Lt ∷ Le ∷ Eq ∷ Ge ∷ Gt ∷ Ne ∷ AbsLt ∷ AbsLe ∷ AbsEq ∷ AbsGe ∷ AbsGt ∷ []
 
-abbrev pub all_families : List Family
-all_families = families.Integer ∷ families.IntAbs ∷ families.Text ∷ families.Bool ∷ []
+-- the families, with that of one scale, and the types, with one numeric type, and the classes, with that of one scale
+abbrev pub all_families : ℕ → List Family
+all_families scale = families.Integer ∷ families.IntAbs ∷ families.Text ∷ families.Bool ∷ families.Uuid ∷ families.Date ∷ families.Timestamp ∷ families.TimestampTz ∷ families.Numeric scale ∷ []
 
-abbrev pub all_types : List SqlType
-all_types = types.Int2 ∷ types.Int4 ∷ types.Int8 ∷ types.Text ∷ types.Bool ∷ []
+abbrev pub all_types : ℕ → ℕ → List SqlType
+all_types digits scale = types.Int2 ∷ types.Int4 ∷ types.Int8 ∷ types.Text ∷ types.Bool ∷ types.Uuid ∷ types.Date ∷ types.Timestamp ∷ types.TimestampTz ∷ types.Numeric digits scale ∷ []
 
-abbrev pub all_classes : List OpClass
-all_classes = classes.Int2Ops ∷ classes.Int4Ops ∷ classes.Int8Ops ∷ classes.TextOps ∷ classes.BoolOps ∷ classes.Int2AbsOps ∷ classes.Int4AbsOps ∷ classes.Int8AbsOps ∷ []
+abbrev pub all_classes : ℕ → List OpClass
+all_classes scale =
+    classes.Int2Ops ∷ classes.Int4Ops ∷ classes.Int8Ops ∷ classes.TextOps ∷ classes.BoolOps ∷ classes.Int2AbsOps ∷ classes.Int4AbsOps ∷ classes.Int8AbsOps ∷
+    classes.UuidOps ∷ classes.DateOps ∷ classes.TimestampOps ∷ classes.TimestampTzOps ∷ classes.NumericOps scale ∷ []
 
 pub every_operator : (p : Op → Bool) → list_all p all_operators ≡ true → (op : Op) → p op ≡ true
 every_operator p all Lt = let lt : 0 < 11 = omega arith in passes-at p all_operators 0 Lt all lt
@@ -51,33 +54,48 @@ every_operator p all AbsEq = let lt : 8 < 11 = omega arith in passes-at p all_op
 every_operator p all AbsGe = let lt : 9 < 11 = omega arith in passes-at p all_operators 9 Lt all lt
 every_operator p all AbsGt = let lt : 10 < 11 = omega arith in passes-at p all_operators 10 Lt all lt
 
-pub every_family : (p : Family → Bool) → list_all p all_families ≡ true → (f : Family) → p f ≡ true
-every_family p all families.Integer = let lt : 0 < 4 = omega arith in passes-at p all_families 0 families.Integer all lt
-every_family p all families.IntAbs = let lt : 1 < 4 = omega arith in passes-at p all_families 1 families.Integer all lt
-every_family p all families.Text = let lt : 2 < 4 = omega arith in passes-at p all_families 2 families.Integer all lt
-every_family p all families.Bool = let lt : 3 < 4 = omega arith in passes-at p all_families 3 families.Integer all lt
+pub every_family : (p : Family → Bool) → ((scale : ℕ) → list_all p (all_families scale) ≡ true) → (f : Family) → p f ≡ true
+every_family p all families.Integer = let lt : 0 < 9 = omega arith in passes-at p (all_families 0) 0 families.Integer (all 0) lt
+every_family p all families.IntAbs = let lt : 1 < 9 = omega arith in passes-at p (all_families 0) 1 families.Integer (all 0) lt
+every_family p all families.Text = let lt : 2 < 9 = omega arith in passes-at p (all_families 0) 2 families.Integer (all 0) lt
+every_family p all families.Bool = let lt : 3 < 9 = omega arith in passes-at p (all_families 0) 3 families.Integer (all 0) lt
+every_family p all families.Uuid = let lt : 4 < 9 = omega arith in passes-at p (all_families 0) 4 families.Integer (all 0) lt
+every_family p all families.Date = let lt : 5 < 9 = omega arith in passes-at p (all_families 0) 5 families.Integer (all 0) lt
+every_family p all families.Timestamp = let lt : 6 < 9 = omega arith in passes-at p (all_families 0) 6 families.Integer (all 0) lt
+every_family p all families.TimestampTz = let lt : 7 < 9 = omega arith in passes-at p (all_families 0) 7 families.Integer (all 0) lt
+every_family p all (families.Numeric scale) = let lt : 8 < 9 = omega arith in passes-at p (all_families scale) 8 families.Integer (all scale) lt
 
-pub every_type : (p : SqlType → Bool) → list_all p all_types ≡ true → (t : SqlType) → p t ≡ true
-every_type p all types.Int2 = let lt : 0 < 5 = omega arith in passes-at p all_types 0 types.Int2 all lt
-every_type p all types.Int4 = let lt : 1 < 5 = omega arith in passes-at p all_types 1 types.Int2 all lt
-every_type p all types.Int8 = let lt : 2 < 5 = omega arith in passes-at p all_types 2 types.Int2 all lt
-every_type p all types.Text = let lt : 3 < 5 = omega arith in passes-at p all_types 3 types.Int2 all lt
-every_type p all types.Bool = let lt : 4 < 5 = omega arith in passes-at p all_types 4 types.Int2 all lt
+pub every_type : (p : SqlType → Bool) → ((digits scale : ℕ) → list_all p (all_types digits scale) ≡ true) → (t : SqlType) → p t ≡ true
+every_type p all types.Int2 = let lt : 0 < 10 = omega arith in passes-at p (all_types 0 0) 0 types.Int2 (all 0 0) lt
+every_type p all types.Int4 = let lt : 1 < 10 = omega arith in passes-at p (all_types 0 0) 1 types.Int2 (all 0 0) lt
+every_type p all types.Int8 = let lt : 2 < 10 = omega arith in passes-at p (all_types 0 0) 2 types.Int2 (all 0 0) lt
+every_type p all types.Text = let lt : 3 < 10 = omega arith in passes-at p (all_types 0 0) 3 types.Int2 (all 0 0) lt
+every_type p all types.Bool = let lt : 4 < 10 = omega arith in passes-at p (all_types 0 0) 4 types.Int2 (all 0 0) lt
+every_type p all types.Uuid = let lt : 5 < 10 = omega arith in passes-at p (all_types 0 0) 5 types.Int2 (all 0 0) lt
+every_type p all types.Date = let lt : 6 < 10 = omega arith in passes-at p (all_types 0 0) 6 types.Int2 (all 0 0) lt
+every_type p all types.Timestamp = let lt : 7 < 10 = omega arith in passes-at p (all_types 0 0) 7 types.Int2 (all 0 0) lt
+every_type p all types.TimestampTz = let lt : 8 < 10 = omega arith in passes-at p (all_types 0 0) 8 types.Int2 (all 0 0) lt
+every_type p all (types.Numeric digits scale) = let lt : 9 < 10 = omega arith in passes-at p (all_types digits scale) 9 types.Int2 (all digits scale) lt
 
-pub every_class : (p : OpClass → Bool) → list_all p all_classes ≡ true → (c : OpClass) → p c ≡ true
-every_class p all classes.Int2Ops = let lt : 0 < 8 = omega arith in passes-at p all_classes 0 classes.Int2Ops all lt
-every_class p all classes.Int4Ops = let lt : 1 < 8 = omega arith in passes-at p all_classes 1 classes.Int2Ops all lt
-every_class p all classes.Int8Ops = let lt : 2 < 8 = omega arith in passes-at p all_classes 2 classes.Int2Ops all lt
-every_class p all classes.TextOps = let lt : 3 < 8 = omega arith in passes-at p all_classes 3 classes.Int2Ops all lt
-every_class p all classes.BoolOps = let lt : 4 < 8 = omega arith in passes-at p all_classes 4 classes.Int2Ops all lt
-every_class p all classes.Int2AbsOps = let lt : 5 < 8 = omega arith in passes-at p all_classes 5 classes.Int2Ops all lt
-every_class p all classes.Int4AbsOps = let lt : 6 < 8 = omega arith in passes-at p all_classes 6 classes.Int2Ops all lt
-every_class p all classes.Int8AbsOps = let lt : 7 < 8 = omega arith in passes-at p all_classes 7 classes.Int2Ops all lt
+pub every_class : (p : OpClass → Bool) → ((scale : ℕ) → list_all p (all_classes scale) ≡ true) → (c : OpClass) → p c ≡ true
+every_class p all classes.Int2Ops = let lt : 0 < 13 = omega arith in passes-at p (all_classes 0) 0 classes.Int2Ops (all 0) lt
+every_class p all classes.Int4Ops = let lt : 1 < 13 = omega arith in passes-at p (all_classes 0) 1 classes.Int2Ops (all 0) lt
+every_class p all classes.Int8Ops = let lt : 2 < 13 = omega arith in passes-at p (all_classes 0) 2 classes.Int2Ops (all 0) lt
+every_class p all classes.TextOps = let lt : 3 < 13 = omega arith in passes-at p (all_classes 0) 3 classes.Int2Ops (all 0) lt
+every_class p all classes.BoolOps = let lt : 4 < 13 = omega arith in passes-at p (all_classes 0) 4 classes.Int2Ops (all 0) lt
+every_class p all classes.Int2AbsOps = let lt : 5 < 13 = omega arith in passes-at p (all_classes 0) 5 classes.Int2Ops (all 0) lt
+every_class p all classes.Int4AbsOps = let lt : 6 < 13 = omega arith in passes-at p (all_classes 0) 6 classes.Int2Ops (all 0) lt
+every_class p all classes.Int8AbsOps = let lt : 7 < 13 = omega arith in passes-at p (all_classes 0) 7 classes.Int2Ops (all 0) lt
+every_class p all classes.UuidOps = let lt : 8 < 13 = omega arith in passes-at p (all_classes 0) 8 classes.Int2Ops (all 0) lt
+every_class p all classes.DateOps = let lt : 9 < 13 = omega arith in passes-at p (all_classes 0) 9 classes.Int2Ops (all 0) lt
+every_class p all classes.TimestampOps = let lt : 10 < 13 = omega arith in passes-at p (all_classes 0) 10 classes.Int2Ops (all 0) lt
+every_class p all classes.TimestampTzOps = let lt : 11 < 13 = omega arith in passes-at p (all_classes 0) 11 classes.Int2Ops (all 0) lt
+every_class p all (classes.NumericOps scale) = let lt : 12 < 13 = omega arith in passes-at p (all_classes scale) 12 classes.Int2Ops (all scale) lt
 
 pub every_method : (p : Method → Bool) → p Btree ≡ true → p Hash ≡ true → (m : Method) → p m ≡ true
 every_method p ordered hashed Btree = ordered
 every_method p ordered hashed Hash = hashed
 
 -- a test of families and operators
-pub every_pair : (p : Family → Op → Bool) → list_all (λ f. list_all (p f) all_operators) all_families ≡ true → (f : Family) (op : Op) → p f op ≡ true
+pub every_pair : (p : Family → Op → Bool) → ((scale : ℕ) → list_all (λ f. list_all (p f) all_operators) (all_families scale) ≡ true) → (f : Family) (op : Op) → p f op ≡ true
 every_pair p all f op = every_operator (p f) (every_family (λ g. list_all (p g) all_operators) all f) op

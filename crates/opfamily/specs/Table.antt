@@ -9,7 +9,7 @@ use Rattle.pg_value.specs.declared.value.SqlType.TheVariants as types
 use Rattle.opfamily.specs.declared.classes.Method.{Method}
 use Rattle.opfamily.specs.declared.classes.Method.TheVariants.{Btree, Hash}
 use Rattle.opfamily.specs.declared.classes.OpClass.{OpClass}
-use Rattle.opfamily.specs.declared.classes.OpClass.TheVariants.{Int2Ops, Int4Ops, Int8Ops, TextOps, BoolOps, Int2AbsOps, Int4AbsOps, Int8AbsOps}
+use Rattle.opfamily.specs.declared.classes.OpClass.TheVariants.{Int2Ops, Int4Ops, Int8Ops, TextOps, BoolOps, Int2AbsOps, Int4AbsOps, Int8AbsOps, UuidOps, DateOps, TimestampOps, TimestampTzOps, NumericOps}
 
 -- an operator of a family, with its strategy
 pub record Member : Type 0 where
@@ -100,6 +100,61 @@ int_abs_ops = record {
   classes = class Int2AbsOps (codes "int2_abs_ops") types.Int2 (Btree ∷ []) ∷ class Int4AbsOps (codes "int4_abs_ops") types.Int4 (Btree ∷ []) ∷ class Int8AbsOps (codes "int8_abs_ops") types.Int8 (Btree ∷ []) ∷ [];
 }
 
--- all families; of those that take a type exactly one is its default
-abbrev pub table : List Row
-table = integer_ops ∷ text_ops ∷ bool_ops ∷ int_abs_ops ∷ []
+-- PostgreSQL's uuid_ops: uuids byte by byte
+abbrev pub uuid_ops : Row
+uuid_ops = record {
+  family = families.Uuid;
+  is_default = true;
+  types = types.Uuid ∷ [];
+  btree = ordering_operators;
+  hash = hash_operators;
+  classes = class UuidOps (codes "uuid_ops") types.Uuid both_methods ∷ [];
+}
+
+-- dates: of PostgreSQL's datetime_ops what compares two dates
+abbrev pub date_ops : Row
+date_ops = record {
+  family = families.Date;
+  is_default = true;
+  types = types.Date ∷ [];
+  btree = ordering_operators;
+  hash = hash_operators;
+  classes = class DateOps (codes "date_ops") types.Date both_methods ∷ [];
+}
+
+-- timestamps: of PostgreSQL's datetime_ops what compares two timestamps
+abbrev pub timestamp_ops : Row
+timestamp_ops = record {
+  family = families.Timestamp;
+  is_default = true;
+  types = types.Timestamp ∷ [];
+  btree = ordering_operators;
+  hash = hash_operators;
+  classes = class TimestampOps (codes "timestamp_ops") types.Timestamp both_methods ∷ [];
+}
+
+-- timestamps with time zone: of PostgreSQL's datetime_ops what compares two timestamps with time zone
+abbrev pub timestamptz_ops : Row
+timestamptz_ops = record {
+  family = families.TimestampTz;
+  is_default = true;
+  types = types.TimestampTz ∷ [];
+  btree = ordering_operators;
+  hash = hash_operators;
+  classes = class TimestampTzOps (codes "timestamptz_ops") types.TimestampTz both_methods ∷ [];
+}
+
+-- PostgreSQL's numeric_ops for the numerics of one scale, of any number of digits: numerics of two scales are of two families (own)
+abbrev pub numeric_ops : ℕ → Row
+numeric_ops scale = record {
+  family = families.Numeric scale;
+  is_default = true;
+  types = types.Numeric 18 scale ∷ [];
+  btree = ordering_operators;
+  hash = hash_operators;
+  classes = class (NumericOps scale) (codes "numeric_ops") (types.Numeric 18 scale) both_methods ∷ [];
+}
+
+-- the families, with that of the numerics of one scale; of those that take a type exactly one is its default
+abbrev pub table : ℕ → List Row
+table scale = integer_ops ∷ text_ops ∷ bool_ops ∷ int_abs_ops ∷ uuid_ops ∷ date_ops ∷ timestamp_ops ∷ timestamptz_ops ∷ numeric_ops scale ∷ []

@@ -4,7 +4,7 @@ ghost use Rattle.std.specs.Prelude.{◌≡◌};
 ghost use Rattle.opfamily.specs.Answers.{does_exist, family_has, number_in, some_family_has, takes};
 ghost use Rattle.opfamily.specs.work.Answers.{strategy_of};
 
-use crate::classes::Method;
+use crate::classes::{Method, is_of_scale, scale_of};
 use pg_value::{Family, Op, SqlType};
 
 /// The strategy of an operator over these types in a family, for an access method: 1 to 5 for `<`, `<=`, `=`, `>=`,
@@ -28,6 +28,11 @@ fn compares(f: Family, t: SqlType) -> bool
         }
         Family::Text => matches!(t, SqlType::Text),
         Family::Bool => matches!(t, SqlType::Bool),
+        Family::Uuid => matches!(t, SqlType::Uuid),
+        Family::Date => matches!(t, SqlType::Date),
+        Family::Timestamp => matches!(t, SqlType::Timestamp),
+        Family::TimestampTz => matches!(t, SqlType::TimestampTz),
+        Family::Numeric(scale) => is_of_scale(t, scale),
     }
 }
 
@@ -35,22 +40,40 @@ fn compares(f: Family, t: SqlType) -> bool
 fn number(f: Family, m: Method, op: Op) -> Option<u8>
     ensures { result ≡ number_in f m op }
 {
-    match (f, m, op) {
-        (Family::IntAbs, Method::Hash, _) => None,
-        (Family::IntAbs, Method::Btree, Op::AbsLt) => Some(1),
-        (Family::IntAbs, Method::Btree, Op::AbsLe) => Some(2),
-        (Family::IntAbs, Method::Btree, Op::AbsEq) => Some(3),
-        (Family::IntAbs, Method::Btree, Op::AbsGe) => Some(4),
-        (Family::IntAbs, Method::Btree, Op::AbsGt) => Some(5),
-        (Family::IntAbs, Method::Btree, _) => None,
-        (_, Method::Hash, Op::Eq) => Some(1),
-        (_, Method::Hash, _) => None,
-        (_, Method::Btree, Op::Lt) => Some(1),
-        (_, Method::Btree, Op::Le) => Some(2),
-        (_, Method::Btree, Op::Eq) => Some(3),
-        (_, Method::Btree, Op::Ge) => Some(4),
-        (_, Method::Btree, Op::Gt) => Some(5),
-        (_, Method::Btree, _) => None,
+    match f {
+        Family::IntAbs => absolute_number(m, op),
+        _ => plain_number(m, op),
+    }
+}
+
+/// The strategy of an operator in the family of absolute values.
+fn absolute_number(m: Method, op: Op) -> Option<u8>
+    ensures { result ≡ number_in Family.IntAbs m op }
+{
+    match (m, op) {
+        (Method::Hash, _) => None,
+        (Method::Btree, Op::AbsLt) => Some(1),
+        (Method::Btree, Op::AbsLe) => Some(2),
+        (Method::Btree, Op::AbsEq) => Some(3),
+        (Method::Btree, Op::AbsGe) => Some(4),
+        (Method::Btree, Op::AbsGt) => Some(5),
+        (Method::Btree, _) => None,
+    }
+}
+
+/// The strategy of an operator in each other family, as in that of integers.
+fn plain_number(m: Method, op: Op) -> Option<u8>
+    ensures { result ≡ number_in Family.Integer m op }
+{
+    match (m, op) {
+        (Method::Hash, Op::Eq) => Some(1),
+        (Method::Hash, _) => None,
+        (Method::Btree, Op::Lt) => Some(1),
+        (Method::Btree, Op::Le) => Some(2),
+        (Method::Btree, Op::Eq) => Some(3),
+        (Method::Btree, Op::Ge) => Some(4),
+        (Method::Btree, Op::Gt) => Some(5),
+        (Method::Btree, _) => None,
     }
 }
 
@@ -72,6 +95,11 @@ fn is_in_some_family(op: Op, l: SqlType, r: SqlType) -> bool
         || has_operator(Family::Text, op, l, r)
         || has_operator(Family::Bool, op, l, r)
         || has_operator(Family::IntAbs, op, l, r)
+        || has_operator(Family::Uuid, op, l, r)
+        || has_operator(Family::Date, op, l, r)
+        || has_operator(Family::Timestamp, op, l, r)
+        || has_operator(Family::TimestampTz, op, l, r)
+        || has_operator(Family::Numeric(scale_of(l)), op, l, r)
 }
 
 /// Whether the family has the operator for these types.

@@ -1,16 +1,16 @@
 -- A well typed condition is defined under each binding that fits the types and binds its columns.
 use Rattle.std.proofs.Common.{◌≡◌, refl, Bool, true, false, IsTrue, ℤ, pos, negsuc, arith}
-use Rattle.std.proofs.lemmas.Bool.{and_parts, ltb-true}
+use Rattle.std.proofs.lemmas.Bool.{and_parts, ltb-true, true≢false}
 use Rattle.pg_value.specs.declared.operators.Family.{Family}
-use Rattle.pg_value.specs.declared.operators.Family.TheVariants.{Integer, IntAbs, Text as TextOps, Bool as BoolOps}
+use Rattle.pg_value.specs.declared.operators.Family.TheVariants.{Integer, IntAbs, Text as TextOps, Bool as BoolOps, Uuid as UuidOps, Date as DateOps, Timestamp as TimestampOps, TimestampTz as TimestampTzOps, Numeric as NumericOps}
 use Rattle.pg_value.specs.declared.operators.Op.{Op}
 use Rattle.pg_value.specs.declared.value.SqlType.{SqlType}
-use Rattle.pg_value.specs.declared.value.SqlType.TheVariants.{Int2, Int4, Int8, Text as TextType, Bool as BoolType}
+use Rattle.pg_value.specs.declared.value.SqlType.TheVariants.{Int2, Int4, Int8, Text as TextType, Bool as BoolType, Uuid as UuidType, Date as DateType, Timestamp as TimestampType, TimestampTz as TimestampTzType, Numeric as NumericType}
 use Rattle.pg_value.specs.declared.value.Value.{Value}
 use Rattle.pg_value.specs.declared.value.Value.TheVariants.{Null, Int, Bool as Flag, Text as String}
 use Rattle.pg_value.specs.work.Order.{IsOfFamily}
 use Rattle.pg_value.specs.Truths.{AreComparable, HasOp, IsSameKind}
-use Rattle.pg_value.specs.Types.{limit, in_range, IsOfType}
+use Rattle.pg_value.specs.Types.{in_range, is_within, IsOfType}
 use Rattle.pg_expr.specs.declared.operand.ColRef.{ColRef}
 use Rattle.pg_expr.specs.declared.operand.Operand.{Operand}
 use Rattle.pg_expr.specs.declared.operand.Operand.TheVariants.{Col, Lit}
@@ -36,9 +36,22 @@ like_itself (Int x) = tt
 like_itself (Flag x) = tt
 like_itself (String x) = tt
 
-pub no_number : (t : SqlType) (n : ℤ) → limit t ≡ 0 → in_range t n ≡ true → ⊥
-no_number t (pos n) none h = omega (arith, ltb-true n (limit t) h)
-no_number t (negsuc m) none h = omega (arith, ltb-true m (limit t) h)
+none_within : (n : ℤ) → is_within 0 n ≡ true → ⊥
+none_within (pos n) h = omega (arith, ltb-true n 0 h)
+none_within (negsuc m) h = omega (arith, ltb-true m 0 h)
+
+-- the values of a type are whole numbers
+abbrev pub has_numbers : SqlType → Bool
+has_numbers TextType = false
+has_numbers BoolType = false
+has_numbers UuidType = false
+has_numbers _ = true
+
+pub no_number : (t : SqlType) (n : ℤ) → has_numbers t ≡ false → in_range t n ≡ true → ⊥
+no_number TextType n none h = none_within n h
+no_number BoolType n none h = none_within n h
+no_number UuidType n none h = none_within n h
+no_number t n none h = absurd (true≢false none)
 
 pub like_type : (t : SqlType) (v : Value) → IsOfType t v → IsLike (some_value t) v
 like_type t Null h = tt
@@ -47,7 +60,13 @@ like_type Int4 (Int x) h = tt
 like_type Int8 (Int x) h = tt
 like_type TextType (Int x) h = absurd (no_number TextType x refl h)
 like_type BoolType (Int x) h = absurd (no_number BoolType x refl h)
+like_type UuidType (Int x) h = absurd (no_number UuidType x refl h)
+like_type DateType (Int x) h = tt
+like_type TimestampType (Int x) h = tt
+like_type TimestampTzType (Int x) h = tt
+like_type (NumericType digits scale) (Int x) h = tt
 like_type TextType (String x) h = tt
+like_type UuidType (String x) h = tt
 like_type BoolType (Flag x) h = tt
 like_type t v h = absurd h
 
@@ -57,7 +76,12 @@ like_kind t Null h = tt
 like_kind Int2 (Int x) h = tt
 like_kind Int4 (Int x) h = tt
 like_kind Int8 (Int x) h = tt
+like_kind DateType (Int x) h = tt
+like_kind TimestampType (Int x) h = tt
+like_kind TimestampTzType (Int x) h = tt
+like_kind (NumericType digits scale) (Int x) h = tt
 like_kind TextType (String x) h = tt
+like_kind UuidType (String x) h = tt
 like_kind BoolType (Flag x) h = tt
 like_kind t v h = absurd h
 
@@ -76,6 +100,21 @@ family_like Integer (String x) (String y) like h = absurd h
 family_like IntAbs (String x) (String y) like h = absurd h
 family_like TextOps (String x) (String y) like h = tt
 family_like BoolOps (String x) (String y) like h = absurd h
+family_like UuidOps (Int x) (Int y) like h = absurd h
+family_like UuidOps (Flag x) (Flag y) like h = absurd h
+family_like UuidOps (String x) (String y) like h = tt
+family_like DateOps (Int x) (Int y) like h = tt
+family_like DateOps (Flag x) (Flag y) like h = absurd h
+family_like DateOps (String x) (String y) like h = absurd h
+family_like TimestampOps (Int x) (Int y) like h = tt
+family_like TimestampOps (Flag x) (Flag y) like h = absurd h
+family_like TimestampOps (String x) (String y) like h = absurd h
+family_like TimestampTzOps (Int x) (Int y) like h = tt
+family_like TimestampTzOps (Flag x) (Flag y) like h = absurd h
+family_like TimestampTzOps (String x) (String y) like h = absurd h
+family_like (NumericOps scale) (Int x) (Int y) like h = tt
+family_like (NumericOps scale) (Flag x) (Flag y) like h = absurd h
+family_like (NumericOps scale) (String x) (String y) like h = absurd h
 family_like f s v like h = absurd like
 
 has_op-like : (op : Op) (s v : Value) → IsLike s v → HasOp op s → HasOp op v
@@ -117,7 +156,7 @@ module _ (t : ColRef → SqlType) (binds : ColRef → Bool) (b : ColRef → Valu
     pub typed-defined : (c : Cond) → IsTyped t c → IsTrue (each_column binds c) → IsDefined b c
     typed-defined (compare op l r) h bound =
         let sides = and_parts (passes_column binds l) (passes_column binds r) bound in
-        comparable-like op (value_of (λ c. some_value (t c)) l) (value_of (λ c. some_value (t c)) r) (value_of b l) (value_of b r) (like_side l sides.0) (like_side r sides.1) h
+        comparable-like op (value_of (λ c. some_value (t c)) l) (value_of (λ c. some_value (t c)) r) (value_of b l) (value_of b r) (like_side l sides.0) (like_side r sides.1) h.comparable
     typed-defined (is_null c) h bound = tt
     typed-defined (is_not_null c) h bound = tt
     typed-defined (bool_col c) h bound = tt

@@ -4,7 +4,8 @@ use Rattle.std.proofs.Math.Bool.{or_comm, or-false, or_assoc}
 use Rattle.pg_value.specs.declared.operators.Op.{Op}
 use Rattle.pg_value.specs.declared.value.Value.{Value}
 use Rattle.pg_value.specs.declared.value.SqlType.{SqlType}
-use Rattle.pg_value.specs.Truths.{both, AreComparable, negator_of, commutator_of}
+use Rattle.pg_value.specs.Truths.{both, negator_of, commutator_of, is_absolute}
+use Rattle.pg_value.proofs.OrderLaws.{absolute_alike}
 use Rattle.pg_expr.specs.declared.operand.ColRef.{ColRef}
 use Rattle.pg_expr.specs.declared.operand.Operand.{Operand}
 use Rattle.pg_expr.specs.declared.operand.Operand.TheVariants.{Col, Lit}
@@ -12,7 +13,7 @@ use Rattle.pg_expr.specs.Cond.{Cond, compare, is_null, is_not_null, bool_col, co
 use Rattle.pg_expr.specs.Columns.{names_column, some_column, some_column_of, passes_column, each_column, each_column_of, atom_count, atom_count_of}
 use Rattle.pg_expr.specs.Conjuncts.{conjuncts_of, conjuncts_of_all}
 use Rattle.pg_expr.specs.Truths.{value_of, truth_at, truth_of_all}
-use Rattle.pg_expr.specs.Typed.{some_value, IsTyped, AreTyped}
+use Rattle.pg_expr.specs.Typed.{some_value, AreAlike, IsComparison, IsTyped, AreTyped}
 use Rattle.pg_expr.specs.Pushed.{is_turned, placed, placed_not, group_of, parts_of, pushed, pushed_parts}
 use Rattle.pg_expr.proofs.TruthLaws.{negator-opposes, both-True, truth_of_all-joined}
 use Rattle.pg_expr.proofs.PushedLaws.{comparable-negator, comparable-commutator}
@@ -22,14 +23,35 @@ module _ (t : ColRef → SqlType) where
   abbrev sample : Operand → Value
   sample = value_of (λ c. some_value (t c))
 
-  turned-typed : (turns : Bool) (op : Op) (l r : Operand) → AreComparable op (sample l) (sample r) → IsTyped t (cond turns (compare (commutator_of op) r l) (compare op l r))
-  turned-typed true op l r h = comparable-commutator op (sample l) (sample r) h
+  alike-turned : (l r : Operand) → AreAlike t l r → AreAlike t r l
+  alike-turned (Col c) (Col d) h = sym h
+  alike-turned (Col c) (Lit v) h = tt
+  alike-turned (Lit v) (Col c) h = tt
+  alike-turned (Lit v) (Lit w) h = tt
+
+  -- the sides in the other order, and an operator that asks the same of them
+  turned-sides : (op : Op) (l r : Operand) → IsComparison t op l r → IsComparison t (commutator_of op) r l
+  turned-sides op l r h = record {
+    comparable = comparable-commutator op (sample l) (sample r) h.comparable;
+    alike = alike-turned l r h.alike;
+    integers = λ is. let sides = h.integers (sym (absolute_alike op) ∙ is) in (sides.1, sides.0);
+  }
+
+  same-sides : (n op : Op) (l r : Operand) → is_absolute n ≡ is_absolute op → IsComparison t op l r → IsComparison t n l r
+  same-sides n op l r same h = record {
+    comparable = comparable-negator n op (sample l) (sample r) same h.comparable;
+    alike = h.alike;
+    integers = λ is. h.integers (sym same ∙ is);
+  }
+
+  turned-typed : (turns : Bool) (op : Op) (l r : Operand) → IsComparison t op l r → IsTyped t (cond turns (compare (commutator_of op) r l) (compare op l r))
+  turned-typed true op l r h = turned-sides op l r h
   turned-typed false op l r h = h
 
-  placed-typed : (op : Op) (l r : Operand) → AreComparable op (sample l) (sample r) → IsTyped t (placed op l r)
+  placed-typed : (op : Op) (l r : Operand) → IsComparison t op l r → IsTyped t (placed op l r)
   placed-typed op l r h = turned-typed (is_turned l r) op l r h
 
-  not-typed : (found : Option Op) (op : Op) (l r : Operand) → ((n : Op) → found ≡ Some n → AreComparable n (sample l) (sample r)) → AreComparable op (sample l) (sample r) → IsTyped t (placed_not found op l r)
+  not-typed : (found : Option Op) (op : Op) (l r : Operand) → ((n : Op) → found ≡ Some n → IsComparison t n l r) → IsComparison t op l r → IsTyped t (placed_not found op l r)
   not-typed None op l r each h = placed-typed op l r h
   not-typed (Some n) op l r each h = placed-typed n l r (each n refl)
 
@@ -62,7 +84,7 @@ module _ (t : ColRef → SqlType) where
   mutual
     pub pushed-typed : (negated : Bool) (c : Cond) → IsTyped t c → IsTyped t (pushed negated c)
     pushed-typed false (compare op l r) h = placed-typed op l r h
-    pushed-typed true (compare op l r) h = not-typed (negator_of op) op l r (λ n e. comparable-negator n op (sample l) (sample r) (negator-opposes op n e).absolute h) h
+    pushed-typed true (compare op l r) h = not-typed (negator_of op) op l r (λ n e. same-sides n op l r (negator-opposes op n e).absolute h) h
     pushed-typed false (is_null c) h = tt
     pushed-typed true (is_null c) h = tt
     pushed-typed false (is_not_null c) h = tt

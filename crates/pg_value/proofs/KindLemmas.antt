@@ -8,7 +8,7 @@ use Rattle.std.proofs.lemmas.Cmp.{on_total, then_total, nat_cmp_total, int_cmp_t
 use Rattle.pg_value.specs.declared.value.Value.{Value}
 use Rattle.pg_value.specs.declared.value.Value.TheVariants.{Null, Int, Bool as Flag, Text as String}
 use Rattle.pg_value.specs.declared.operators.Family.{Family}
-use Rattle.pg_value.specs.declared.operators.Family.TheVariants.{Integer, IntAbs, Text as TextOps, Bool as BoolOps}
+use Rattle.pg_value.specs.declared.operators.Family.TheVariants.{Integer, IntAbs, Text as TextOps, Bool as BoolOps, Uuid as UuidOps, Date as DateOps, Timestamp as TimestampOps, TimestampTz as TimestampTzOps, Numeric as NumericOps}
 use Rattle.pg_value.specs.Order.{bytes, flag, number}
 use Rattle.pg_value.specs.work.Order.{IsOfFamily}
 use Rattle.pg_value.specs.ColumnOrder.{column_order, directed}
@@ -130,3 +130,28 @@ as-columns BoolOps d n (Flag a) (Int b) ne h k = absurd k
 as-columns BoolOps d n (Flag a) (String b) ne h k = absurd k
 as-columns BoolOps d n (Int a) w ne h k = absurd h
 as-columns BoolOps d n (String a) w ne h k = absurd h
+as-columns UuidOps d n (String a) (String b) ne h k = refl
+as-columns UuidOps d n (String a) (Int b) ne h k = absurd k
+as-columns UuidOps d n (String a) (Flag b) ne h k = absurd k
+as-columns UuidOps d n (Int a) w ne h k = absurd h
+as-columns UuidOps d n (Flag a) w ne h k = absurd h
+as-columns DateOps d n (Int a) (Int b) ne h k = refl
+as-columns DateOps d n (Int a) (Flag b) ne h k = absurd k
+as-columns DateOps d n (Int a) (String b) ne h k = absurd k
+as-columns DateOps d n (Flag a) w ne h k = absurd h
+as-columns DateOps d n (String a) w ne h k = absurd h
+as-columns TimestampOps d n (Int a) (Int b) ne h k = refl
+as-columns TimestampOps d n (Int a) (Flag b) ne h k = absurd k
+as-columns TimestampOps d n (Int a) (String b) ne h k = absurd k
+as-columns TimestampOps d n (Flag a) w ne h k = absurd h
+as-columns TimestampOps d n (String a) w ne h k = absurd h
+as-columns TimestampTzOps d n (Int a) (Int b) ne h k = refl
+as-columns TimestampTzOps d n (Int a) (Flag b) ne h k = absurd k
+as-columns TimestampTzOps d n (Int a) (String b) ne h k = absurd k
+as-columns TimestampTzOps d n (Flag a) w ne h k = absurd h
+as-columns TimestampTzOps d n (String a) w ne h k = absurd h
+as-columns (NumericOps scale) d n (Int a) (Int b) ne h k = refl
+as-columns (NumericOps scale) d n (Int a) (Flag b) ne h k = absurd k
+as-columns (NumericOps scale) d n (Int a) (String b) ne h k = absurd k
+as-columns (NumericOps scale) d n (Flag a) w ne h k = absurd h
+as-columns (NumericOps scale) d n (String a) w ne h k = absurd h

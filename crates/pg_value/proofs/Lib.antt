@@ -9,3 +9,4 @@ pub mod SortByLemmas
 pub mod PartSearchLemmas
 pub mod KindLemmas
 pub mod DirectionLemmas
+pub mod FieldLemmas

@@ -8,7 +8,7 @@ use Rattle.std.proofs.lemmas.Slice.Eq.{bytes_eq-Decides}
 use Rattle.std.specs.Ordering.{nat_cmp, bool_cmp, ordering_reverse, is_lt, is_le, is_eq, is_ge, is_gt, is_ne}
 use Rattle.std.proofs.lemmas.Cmp.{ranked, int_ranked, on_total, nat_cmp_total, int_cmp_total, nat_list_cmp_total}
 use Rattle.pg_value.specs.declared.operators.Family.{Family}
-use Rattle.pg_value.specs.declared.operators.Family.TheVariants.{Integer, IntAbs, Text as TextOps, Bool as BoolOps}
+use Rattle.pg_value.specs.declared.operators.Family.TheVariants.{Integer, IntAbs, Text as TextOps, Bool as BoolOps, Uuid as UuidOps, Date as DateOps, Timestamp as TimestampOps, TimestampTz as TimestampTzOps, Numeric as NumericOps}
 use Rattle.pg_value.specs.declared.operators.Op.{Op}
 use Rattle.pg_value.specs.declared.operators.Op.TheVariants.{Lt, Le, Eq, Ge, Gt, Ne, AbsLt, AbsLe, AbsEq, AbsGe, AbsGt}
 use Rattle.pg_value.specs.declared.value.Value.{Value}
@@ -43,6 +43,11 @@ value_total Integer = on_total number int_cmp_total
 value_total IntAbs = on_total magnitude nat_cmp_total
 value_total TextOps = on_total bytes nat_list_cmp_total
 value_total BoolOps = on_total flag bool_cmp_total
+value_total UuidOps = on_total bytes nat_list_cmp_total
+value_total DateOps = on_total number int_cmp_total
+value_total TimestampOps = on_total number int_cmp_total
+value_total TimestampTzOps = on_total number int_cmp_total
+value_total (NumericOps scale) = on_total number int_cmp_total
 
 reversed : (f g : Ordering → Bool) → f Greater ≡ g Less → f Equal ≡ g Equal → f Less ≡ g Greater → (o : Ordering) → f (ordering_reverse o) ≡ g o
 reversed f g less equal greater Less = less

@@ -1,21 +1,26 @@
--- The value that the text of a field spells (PostgreSQL manual, COPY, Numeric Types and Boolean Type; decimal digits alone, own).
-use Rattle.std.specs.Prelude.{ℕ, ◌-◌, Bool, true, false, cond, ◌&&◌, ◌||◌, List, [], ◌∷◌, length, take, drop, map, codes, ℤ, pos, neg_ℤ, Option, None, Some, Ok, Err, nat_lt, nat_le}
+-- The value that the text of a field spells (PostgreSQL manual, COPY, Numeric Types, Date/Time Types, Boolean Type and UUID Type; decimal digits alone, own).
+use Rattle.std.specs.Prelude.{ℕ, ◌-◌, Bool, true, false, cond, ◌&&◌, ◌||◌, List, length, take, drop, map, codes, ℤ, pos, neg_ℤ, Option, None, Some, Ok, Err, nat_lt, nat_le}
 use Rattle.std.specs.declared.result.Result.{Result}
 use Rattle.std.specs.Char.{is_ascii_whitespace, is_ascii_digit, to_ascii_lowercase}
 use Rattle.std.specs.List.{prefix_len, suffix_len, list_all}
 use Rattle.std.specs.Str.{bytes_eq}
 use Rattle.std.specs.Str.Parse.{signed_digits_value, without_leading_sign}
+use Rattle.civil.specs.declared.unread.Unread.{Unread}
+use Rattle.civil.specs.declared.unread.Unread.TheVariants.{Form as NoForm, Range as OutOfRange}
+use Rattle.civil.specs.Forms.{is_uuid_text}
+use Rattle.civil.specs.Numerics.{numeric_value, whole_numeric_of}
+use Rattle.civil.specs.Times.{date_value, timestamp_value, timestamptz_value}
 use Rattle.pg_value.specs.declared.fields.FieldFault.{FieldFault}
 use Rattle.pg_value.specs.declared.fields.FieldFault.TheVariants.{Range, Invalid}
 use Rattle.pg_value.specs.declared.value.SqlType.{SqlType}
-use Rattle.pg_value.specs.declared.value.SqlType.TheVariants.{Text as TextType, Bool as BoolType}
+use Rattle.pg_value.specs.declared.value.SqlType.TheVariants.{Text as TextType, Bool as BoolType, Uuid as UuidType, Date as DateType, Timestamp as TimestampType, TimestampTz as TimestampTzType, Numeric as NumericType}
 use Rattle.pg_value.specs.declared.value.Value.{Value}
 use Rattle.pg_value.specs.declared.value.Value.TheVariants.{Int, Bool as Flag, Text as String}
 use Rattle.pg_value.specs.Types.{in_range}
 
 -- the text of NULL in COPY data, `\N`
 abbrev pub null_text : List ℕ
-null_text = 92 ∷ 78 ∷ []
+null_text = codes "\\N"
 
 -- the word of a text: what is left without the white space at its ends
 abbrev pub from_word : List ℕ → List ℕ
@@ -61,8 +66,33 @@ abbrev pub flagged : Option Bool → Result Value FieldFault
 flagged None = Err Invalid
 flagged (Some b) = Ok (Flag b)
 
--- the value of a type that a text spells, or why it spells none: a text's bytes as they are, else what its word spells
+-- what was read of a date, a timestamp or a numeric, as a value: `Invalid` where the word has not the form, `Range` where it has and the type does not have what it spells
+abbrev pub counted : Result ℤ Unread → Result Value FieldFault
+counted (Ok n) = Ok (Int n)
+counted (Err NoForm) = Err Invalid
+counted (Err OutOfRange) = Err Range
+
+-- a uuid: the text in small letters; `Invalid` where it has not the canonical form
+abbrev pub uuid_of : List ℕ → Result Value FieldFault
+uuid_of text = cond (is_uuid_text text) (Ok (String (map to_ascii_lowercase text))) (Err Invalid)
+
+-- the value of a type that a text spells, or why it spells none: a text's bytes as they are, a uuid's in small letters, else what its word spells
 abbrev pub field_value : SqlType → List ℕ → Result Value FieldFault
 field_value TextType text = Ok (String text)
+field_value UuidType text = uuid_of text
 field_value BoolType text = flagged (flag_of (word_of text))
+field_value DateType text = counted (date_value (word_of text))
+field_value TimestampType text = counted (timestamp_value (word_of text))
+field_value TimestampTzType text = counted (timestamptz_value (word_of text))
+field_value (NumericType digits scale) text = counted (numeric_value digits scale (word_of text))
 field_value t text = ranged t (number_of (word_of text))
+
+-- a whole number as a numeric; `Range` where the type does not have it
+abbrev pub as_numeric : Option ℤ → Result Value FieldFault
+as_numeric None = Err Range
+as_numeric (Some n) = Ok (Int n)
+
+-- a number without a point as a value of an integer or numeric type: of a numeric type it is 10 to the scale times as much
+abbrev pub whole_value : SqlType → ℤ → Result Value FieldFault
+whole_value (NumericType digits scale) n = as_numeric (whole_numeric_of digits scale n)
+whole_value t n = ranged t (Some n)

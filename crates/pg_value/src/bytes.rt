@@ -1,6 +1,7 @@
 //! A text as its bytes. No encoding is checked, and texts compare byte by byte, as under collation C.
 
-ghost use Rattle.std.specs.Prelude.{◌≡◌, IfOk};
+ghost use Rattle.std.specs.Prelude.{◌≡◌, IfOk, map};
+ghost use Rattle.std.specs.Char.{to_ascii_lowercase};
 
 use std::alloc::{AllocError, Global};
 use std::marker::Model;
@@ -38,6 +39,15 @@ impl Bytes {
         ensures { result.now ≡ self.now }
     {
         &self.bytes
+    }
+
+    /// The text with its capital letters as small ones.
+    pub(crate) fn into_small_letters(self) -> Bytes
+        ensures { result ≡ map to_ascii_lowercase self }
+    {
+        let Bytes { mut bytes } = self;
+        bytes.make_ascii_lowercase();
+        Bytes { bytes }
     }
 
     /// An equal text.

@@ -46,6 +46,11 @@ pub fn order_is_total()
     ensures magnitudes { (m n : ℤ) → value_order Family.IntAbs (Value.Int m) (Value.Int n) ≡ Ordering.Equal → unsigned_abs m ≡ unsigned_abs n }
     ensures texts { (s t : List ℕ) → value_order Family.Text (Value.Text s) (Value.Text t) ≡ Ordering.Equal → s ≡ t }
     ensures flags { (p q : Bool) → value_order Family.Bool (Value.Bool p) (Value.Bool q) ≡ Ordering.Equal → p ≡ q }
+    ensures uuids { (s t : List ℕ) → value_order Family.Uuid (Value.Text s) (Value.Text t) ≡ Ordering.Equal → s ≡ t }
+    ensures dates { (m n : ℤ) → value_order Family.Date (Value.Int m) (Value.Int n) ≡ Ordering.Equal → m ≡ n }
+    ensures timestamps { (m n : ℤ) → value_order Family.Timestamp (Value.Int m) (Value.Int n) ≡ Ordering.Equal → m ≡ n }
+    ensures instants { (m n : ℤ) → value_order Family.TimestampTz (Value.Int m) (Value.Int n) ≡ Ordering.Equal → m ≡ n }
+    ensures numerics { (scale : ℕ) (m n : ℤ) → value_order (Family.Numeric scale) (Value.Int m) (Value.Int n) ≡ Ordering.Equal → m ≡ n }
 {}
 
 /// The truth of `a op b`: `Unknown` exactly where a side is NULL. Each side is NULL or of a kind on which `op` is

@@ -46,9 +46,13 @@ fn family_order(f: Family, a: &Value, b: &Value) -> Ordering
     ensures { result ≡ value_order f a.now b.now }
 {
     match f {
-        Family::Integer => number(a).cmp(&number(b)),
+        Family::Integer
+        | Family::Date
+        | Family::Timestamp
+        | Family::TimestampTz
+        | Family::Numeric(_) => number(a).cmp(&number(b)),
         Family::IntAbs => number(a).unsigned_abs().cmp(&number(b).unsigned_abs()),
-        Family::Text => bytes(a).cmp(bytes(b)),
+        Family::Text | Family::Uuid => bytes(a).cmp(bytes(b)),
         Family::Bool => flag(a).cmp(&flag(b)),
     }
 }

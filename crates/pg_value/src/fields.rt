@@ -1,21 +1,26 @@
-//! Values read from the texts of fields (PostgreSQL manual, COPY, Numeric Types and Boolean Type).
+//! Values read from the texts of fields (PostgreSQL manual, COPY, Numeric Types, Date/Time Types, Boolean Type and UUID
+//! Type).
 
-ghost use Rattle.std.specs.Prelude.{◌≡◌, ◌↔◌, ◌≤◌, ◌<◌, ◌^◌, ◌-◌, ℕ, ℤ, Bool, true, List, min, map, pos, cond, MatchOption, IfErr, IfOk, IsTrue, Some, None};
+ghost use Rattle.std.specs.Prelude.{◌≡◌, ◌↔◌, ◌≤◌, ◌<◌, ◌^◌, ◌-◌, ℕ, ℤ, Bool, true, false, List, min, map, pos, cond, MatchOption, IfErr, IfOk, IsTrue, Some, None};
 ghost use Rattle.std.specs.Char.{to_ascii_lowercase};
 ghost use Rattle.std.specs.Str.Parse.{digits_value, starts_with_minus, without_leading_sign};
-ghost use Rattle.pg_value.specs.Fields.{word_of, is_numeral, number_of, flag_of, is_start, is_true_word, is_false_word, signed, ranged, flagged, field_value};
+ghost use Rattle.pg_value.specs.Fields.{word_of, is_numeral, number_of, flag_of, is_start, is_true_word, is_false_word, signed, ranged, flagged, counted, uuid_of, field_value, whole_value as whole_value_of};
 ghost use Rattle.pg_value.specs.work.Fields.{IsAmidBlanks, SpellsNumber, IsUnlessMemory};
-ghost use Rattle.pg_value.specs.Types.{IsOfType, limit};
+ghost use Rattle.pg_value.specs.Types.{IsOfType, limit, takes_whole};
+ghost use Rattle.pg_value.specs.work.Types.{has_texts};
 
 use crate::bytes::Bytes;
 use crate::value::{SqlType, Value};
+use civil::{
+    Unread, is_uuid, read_date, read_numeric, read_timestamp, read_timestamptz, whole_numeric,
+};
 use std::alloc::{AllocError, Global};
 use thiserror::Error;
 
 /// Why a text is no value of a type.
 #[derive(Clone, Copy, Debug, PartialEq, Eq, Error)]
 pub enum FieldFault {
-    /// The text spells a whole number that the type does not have.
+    /// The text has the form of the type, and spells what the type does not have.
     #[error("out of range")]
     Range,
     /// The text spells no value of the type.
@@ -36,19 +41,79 @@ impl From<AllocError> for FieldFault {
     }
 }
 
-/// The value of type `t` that a text spells. A text is its bytes as they are. A whole number is decimal digits after
-/// an optional sign, a truth value is `1`, `0` or a beginning of one of true, yes, on, false, no and off that is
-/// neither empty nor `o`, in capital or small letters; each may stand amid white space (space, tab, LF, FF, CR).
-/// `Range`: a whole number is spelled that the type does not have. `Invalid`: nothing of the type is spelled.
+/// The value of type `t` that a text spells. A text is its bytes as they are, a uuid has the canonical form, in capital or
+/// small letters. A whole number is decimal digits after an optional sign, a truth value is `1`, `0` or a beginning of one of
+/// true, yes, on, false, no and off that is neither empty nor `o`, in capital or small letters, and dates, timestamps and
+/// numerics are as `civil` reads them; all but texts and uuids may stand amid white space (space, tab, LF, FF, CR). `Range`: the text
+/// has the form of the type, and the type does not have what it spells. `Invalid`: it has not the form. Only texts and uuids
+/// take memory.
 pub fn read_value(alloc: Global, t: SqlType, text: &[u8]) -> Result<Value, FieldFault>
     ensures value { IsUnlessMemory (field_value t text.now) result }
     ensures typed { IfOk result (λ v. IsOfType t v) }
-    ensures memory { IfErr result (λ e. e ≡ FieldFault.Memory → t ≡ SqlType.Text) }
+    ensures memory { IfErr result (λ e. e ≡ FieldFault.Memory → has_texts t ≡ true) }
+{
+    if holds_texts(t) {
+        let copy = Bytes::from_vec(Vec::from_slice(alloc, text)?);
+        return owned_value(t, copy);
+    }
+    word_value(t, word(text))
+}
+
+/// The value of type `t` that an owned text spells, as `read_value` has it. A text and a uuid are handed on, and no other
+/// value takes memory.
+pub fn owned_value(t: SqlType, text: Bytes) -> Result<Value, FieldFault>
+    ensures value { result ≡ field_value t text }
+    ensures typed { IfOk result (λ v. IsOfType t v) }
 {
     match t {
-        SqlType::Text => Ok(Value::Text(Bytes::from_vec(Vec::from_slice(alloc, text)?))),
-        SqlType::Bool => read_flag(word(text)),
-        SqlType::Int2 | SqlType::Int4 | SqlType::Int8 => read_number(t, word(text)),
+        SqlType::Text => Ok(Value::Text(text)),
+        SqlType::Uuid => uuid_value(text),
+        _ => word_value(t, word(text.items())),
+    }
+}
+
+/// Whether the values of a type are texts, of which each takes memory.
+fn holds_texts(t: SqlType) -> bool
+    ensures { result ≡ has_texts t }
+{
+    matches!(t, SqlType::Text | SqlType::Uuid)
+}
+
+/// A uuid in small letters.
+fn uuid_value(text: Bytes) -> Result<Value, FieldFault>
+    ensures { result ≡ uuid_of text }
+{
+    if is_uuid(text.items()) {
+        Ok(Value::Text(text.into_small_letters()))
+    } else {
+        Err(FieldFault::Invalid)
+    }
+}
+
+/// The value that a word spells, of a type whose values are no texts.
+fn word_value(t: SqlType, word: &[u8]) -> Result<Value, FieldFault>
+    requires { has_texts t ≡ false }
+    ensures { (text : List ℕ) → word.now ≡ word_of text → result ≡ field_value t text }
+{
+    match t {
+        SqlType::Text | SqlType::Uuid => Err(FieldFault::Invalid),
+        SqlType::Bool => read_flag(word),
+        SqlType::Int2 | SqlType::Int4 | SqlType::Int8 => read_number(t, word),
+        SqlType::Date => counted_value(read_date(word)),
+        SqlType::Timestamp => counted_value(read_timestamp(word)),
+        SqlType::TimestampTz => counted_value(read_timestamptz(word)),
+        SqlType::Numeric { digits, scale } => counted_value(read_numeric(digits, scale, word)),
+    }
+}
+
+/// What was read of a date, a timestamp or a numeric, as a value.
+fn counted_value(number: Result<i64, Unread>) -> Result<Value, FieldFault>
+    ensures { result ≡ counted number }
+{
+    match number {
+        Ok(number) => Ok(Value::Int(number)),
+        Err(Unread::Form) => Err(FieldFault::Invalid),
+        Err(Unread::Range) => Err(FieldFault::Range),
     }
 }
 
@@ -68,9 +133,26 @@ fn read_number(t: SqlType, word: &[u8]) -> Result<Value, FieldFault>
     }
 }
 
+/// The number without a point of this magnitude, a negative one where `minus`, as a value of an integer or numeric type;
+/// 2^64 - 1 stands for that and every larger magnitude. The only error is `Range`: the type does not have it.
+pub fn whole_value(t: SqlType, minus: bool, magnitude: u64) -> Result<Value, FieldFault>
+    requires { takes_whole t ≡ true }
+    ensures { (n : ℕ) → magnitude ≡ min n (2 ^ 64 - 1) → result ≡ whole_value_of t (signed minus n) }
+{
+    match t {
+        SqlType::Numeric { digits, scale } => {
+            match whole_numeric(digits, scale, minus, magnitude) {
+                Some(number) => Ok(Value::Int(number)),
+                None => Err(FieldFault::Range),
+            }
+        }
+        _ => signed_value(t, minus, magnitude),
+    }
+}
+
 /// The whole number of this magnitude, a negative one where `minus`, as a value of an integer type; 2^64 - 1 stands for
 /// that and every larger magnitude. The only error is `Range`: the type does not have it.
-pub fn signed_value(t: SqlType, minus: bool, magnitude: u64) -> Result<Value, FieldFault>
+fn signed_value(t: SqlType, minus: bool, magnitude: u64) -> Result<Value, FieldFault>
     requires integer { 0 < limit t }
     ensures { (n : ℕ) → magnitude ≡ min n (2 ^ 64 - 1) → result ≡ ranged t (Some (signed minus n)) }
 {
@@ -92,7 +174,7 @@ fn limit_of(t: SqlType) -> u64
         SqlType::Int2 => 1 << 15,
         SqlType::Int4 => 1 << 31,
         SqlType::Int8 => 1 << 63,
-        SqlType::Text | SqlType::Bool => 0,
+        _ => 0,
     }
 }
 

@@ -25,6 +25,16 @@ pub enum Family {
     Text,
     /// `bool_ops`: false before true.
     Bool,
+    /// `uuid_ops`: uuids byte by byte.
+    Uuid,
+    /// `date_ops`: the earlier day first.
+    Date,
+    /// `timestamp_ops`: the earlier time first.
+    Timestamp,
+    /// `timestamptz_ops`: the earlier instant first.
+    TimestampTz,
+    /// `numeric_ops` of numbers with so many digits behind the point, by value.
+    Numeric(u8),
 }
 
 /// A comparison operator.

@@ -15,6 +15,22 @@ pub enum SqlType {
     Text,
     /// False and true.
     Bool,
+    /// Uuids in the canonical form, in small letters.
+    Uuid,
+    /// Days of the years 1 to 9999, as whole numbers from 2000-01-01 on.
+    Date,
+    /// Times of the years 1 to 9999, as microseconds from 2000-01-01 00:00:00 on.
+    Timestamp,
+    /// Instants of the years 1 to 9999, as microseconds from 2000-01-01 00:00:00 in UTC on.
+    TimestampTz,
+    /// Numbers with a fixed number of digits behind the point, as whole numbers: 10^scale times as much. No number has other
+    /// digits than 1 to 18, or more of them behind the point than in all.
+    Numeric {
+        /// How many decimal digits a number has at most.
+        digits: u8,
+        /// How many of them stand behind the point.
+        scale: u8,
+    },
 }
 
 /// A value of a column or a literal.
@@ -22,11 +38,11 @@ pub enum SqlType {
 pub enum Value {
     /// No value.
     Null,
-    /// A whole number of any of the integer types.
+    /// A whole number of any of the integer types, or one that stands for a date, a timestamp or a numeric.
     Int(i64),
     /// A truth value.
     Bool(bool),
-    /// A text.
+    /// A text or a uuid.
     Text(Bytes),
 }
 

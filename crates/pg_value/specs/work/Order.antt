@@ -2,7 +2,7 @@
 use Rattle.std.specs.Prelude.{Option, None, Some}
 use Rattle.std.specs.declared.cmp.Ordering.{Ordering}
 use Rattle.pg_value.specs.declared.operators.Family.{Family}
-use Rattle.pg_value.specs.declared.operators.Family.TheVariants.{Integer, IntAbs, Text as TextOps, Bool as BoolOps}
+use Rattle.pg_value.specs.declared.operators.Family.TheVariants.{Integer, IntAbs, Text as TextOps, Bool as BoolOps, Uuid as UuidOps, Date as DateOps, Timestamp as TimestampOps, TimestampTz as TimestampTzOps, Numeric as NumericOps}
 use Rattle.pg_value.specs.declared.value.Value.{Value}
 use Rattle.pg_value.specs.declared.value.Value.TheVariants.{Null, Int, Bool as Flag, Text as String}
 use Rattle.pg_value.specs.Order.{value_order}
@@ -20,4 +20,9 @@ IsOfFamily Integer (Int n) = Unit {0}
 IsOfFamily IntAbs (Int n) = Unit {0}
 IsOfFamily TextOps (String t) = Unit {0}
 IsOfFamily BoolOps (Flag b) = Unit {0}
+IsOfFamily UuidOps (String t) = Unit {0}
+IsOfFamily DateOps (Int n) = Unit {0}
+IsOfFamily TimestampOps (Int n) = Unit {0}
+IsOfFamily TimestampTzOps (Int n) = Unit {0}
+IsOfFamily (NumericOps scale) (Int n) = Unit {0}
 IsOfFamily _ _ = ⊥

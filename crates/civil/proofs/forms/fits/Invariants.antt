@@ -1,5 +1,5 @@
 use Rattle.std.proofs.Common.{◌≡◌, drop}
-use Rattle.civil.specs.work.Forms.{has_form}
+use Rattle.civil.specs.Forms.{has_form}
 use Rattle.civil.proofs.forms.fits.Given as goal
 
 abbrev pub invariant-loop-n : goal.invariant-loop-n

@@ -1,6 +1,6 @@
 use Rattle.std.proofs.Common.{◌≡◌, drop}
 use Rattle.std.specs.List.{list_all}
-use Rattle.civil.specs.work.Numerics.{is_nought}
+use Rattle.civil.specs.Numerics.{is_nought}
 use Rattle.civil.proofs.numerics.are_noughts.Given as goal
 
 abbrev pub invariant-loop-n : goal.invariant-loop-n

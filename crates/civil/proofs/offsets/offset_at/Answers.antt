@@ -1,6 +1,6 @@
 use Rattle.std.proofs.Common.{ℕ, ◌+◌, sym, ap, ◌∙◌, arith}
 use Rattle.std.specs.List.{prefix_len}
-use Rattle.civil.specs.work.Times.{is_of_time}
+use Rattle.civil.specs.Times.{is_of_time}
 use Rattle.civil.proofs.ScanLemmas.{gone-on, passed, stopped}
 use Rattle.civil.proofs.offsets.offset_at.Goals as goal
 

@@ -1,6 +1,6 @@
 use Rattle.std.proofs.Common.{◌≡◌, ◌+◌, drop}
 use Rattle.std.specs.List.{prefix_len}
-use Rattle.civil.specs.work.Times.{is_of_time}
+use Rattle.civil.specs.Times.{is_of_time}
 use Rattle.civil.proofs.offsets.offset_at.Given as goal
 
 abbrev pub invariant-loop-n : goal.invariant-loop-n

@@ -1,5 +1,5 @@
 use Rattle.std.proofs.Common.{ℕ, ap, ap₂, ◌∙◌, take, drop}
-use Rattle.civil.specs.work.Times.{instant_value}
+use Rattle.civil.specs.Times.{instant_value}
 use Rattle.civil.proofs.offsets.read_timestamptz.Goals as goal
 
 pub returns : goal.returns

@@ -16,3 +16,18 @@ returns-clause-texts c = same_texts
 
 pub returns-clause-flags : goal.returns-clause-flags
 returns-clause-flags c = same_flags
+
+pub returns-clause-uuids : goal.returns-clause-uuids
+returns-clause-uuids c = same_texts
+
+pub returns-clause-dates : goal.returns-clause-dates
+returns-clause-dates c = same_numbers
+
+pub returns-clause-timestamps : goal.returns-clause-timestamps
+returns-clause-timestamps c = same_numbers
+
+pub returns-clause-instants : goal.returns-clause-instants
+returns-clause-instants c = same_numbers
+
+pub returns-clause-numerics : goal.returns-clause-numerics
+returns-clause-numerics c = λ scale. same_numbers

@@ -14,6 +14,6 @@ returns-then-magnitude-limit-2 c = λ n is.
 
 pub returns : goal.returns
 returns c = λ n is. elim c.if-minus.branch [
-  | then-minus+else-magnitude-limit w ↦ negative-over c.args.t c.args.minus n c.args.magnitude w.if-minus.true is (omega (arith, c.limit_of-limit.ensures, w.if-magnitude-limit.false))
-  | else-minus+else-magnitude-limit-2 w ↦ positive-over c.args.t c.args.minus n c.args.magnitude w.if-minus.false is (omega (arith, c.limit_of-limit.ensures, w.if-magnitude-limit-2.false))
+  | then-minus+else-magnitude-limit w ↦ negative-over c.args.t c.args.minus n c.args.magnitude w.if-minus.true c.requires.integer is (omega (arith, c.limit_of-limit.ensures, w.if-magnitude-limit.false))
+  | else-minus+else-magnitude-limit-2 w ↦ positive-over c.args.t c.args.minus n c.args.magnitude w.if-minus.false c.requires.integer is (omega (arith, c.limit_of-limit.ensures, w.if-magnitude-limit-2.false))
 ]

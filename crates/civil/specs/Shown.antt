@@ -2,8 +2,8 @@
 use Rattle.std.specs.Prelude.{ℕ, zero, suc, ◌+◌, ◌/◌, ◌%◌, ◌^◌, cond, nat_eq, List, [], ◌∷◌, ◌++◌, codes, ℤ, pos, unsigned_abs, Option, Some, None}
 use Rattle.std.specs.Fmt.{decimal}
 use Rattle.std.specs.Int.{int_rem_euclid, int_div_euclid}
-use Rattle.civil.specs.work.Days.{Day, day_numbered}
-use Rattle.civil.specs.work.Times.{day_micros}
+use Rattle.civil.specs.Days.{Day, day_numbered}
+use Rattle.civil.specs.Times.{day_micros}
 
 -- the last so many decimal digits of a number, with zeros before it
 unfoldable pub figures : ℕ → ℕ → List ℕ

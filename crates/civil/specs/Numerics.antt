@@ -1,11 +1,11 @@
 -- Numbers with a fixed number of digits behind the point, as whole numbers (PostgreSQL manual, Arbitrary Precision Numbers; own: no rounding, no exponent).
-use Rattle.std.specs.Prelude.{ℕ, ◌+◌, ◌*◌, ◌^◌, ◌&&◌, Bool, true, nat_eq, nat_le, nat_lt, cond, List, [], ◌∷◌, length, take, drop, ℤ, pos, ◌*ℤ◌, unsigned_abs, Option, Some, None, Result}
+use Rattle.std.specs.Prelude.{ℕ, ◌+◌, ◌*◌, ◌^◌, ◌&&◌, Bool, true, cond, nat_eq, nat_le, nat_lt, List, [], ◌∷◌, length, take, drop, ℤ, pos, ◌*ℤ◌, unsigned_abs, Option, Some, None, Result}
 use Rattle.std.specs.Char.{is_ascii_digit}
 use Rattle.std.specs.List.{list_all, prefix_len}
 use Rattle.std.specs.Str.Parse.{digits_value, starts_with_minus, without_leading_sign}
 use Rattle.civil.specs.declared.unread.Unread.{Unread}
-use Rattle.civil.specs.work.Forms.{fraction, signed}
-use Rattle.civil.specs.work.Times.{formed, ranged}
+use Rattle.civil.specs.Forms.{fraction, signed}
+use Rattle.civil.specs.Times.{formed, ranged}
 
 -- one decimal digit or more, and nothing else
 abbrev pub is_numeral : List ℕ → Bool

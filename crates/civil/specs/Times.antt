@@ -4,8 +4,8 @@ use Rattle.std.specs.Char.{is_ascii_digit}
 use Rattle.std.specs.List.{prefix_len}
 use Rattle.std.specs.Ordering.{int_cmp, is_le}
 use Rattle.std.specs.Str.Parse.{starts_with_minus}
-use Rattle.civil.specs.work.Days.{Day, day_with, is_day, day_number}
-use Rattle.civil.specs.work.Forms.{fraction, has_form, has_a_form, number_at, signed}
+use Rattle.civil.specs.Days.{Day, day_with, is_day, day_number}
+use Rattle.civil.specs.Forms.{fraction, has_form, has_a_form, number_at, signed}
 use Rattle.civil.specs.declared.unread.Unread.{Unread}
 use Rattle.civil.specs.declared.unread.Unread.TheVariants.{Form, Range}
 

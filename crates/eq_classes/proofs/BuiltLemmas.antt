@@ -11,7 +11,8 @@ use Rattle.pg_expr.specs.Cond.{Cond}
 use Rattle.pg_expr.specs.Pushed.{is_lower}
 use Rattle.eq_classes.specs.declared.order.OrderItem.{OrderItem}
 use Rattle.eq_classes.specs.Equality.{Equality, equal_in, equality_in, is_column}
-use Rattle.eq_classes.specs.Classes.{Premises, Linked, conjunct, constant, same, turned, chain, Class, is_family, has_member, Mention, is_in, left_of, ordered_by, mentions, first_mention, literals, IsClass, AreClasses}
+use Rattle.opfamily.specs.Answers.{is_family}
+use Rattle.eq_classes.specs.Classes.{Premises, Linked, conjunct, constant, same, turned, chain, Class, has_member, Mention, is_in, left_of, ordered_by, mentions, first_mention, literals, IsClass, AreClasses}
 use Rattle.eq_classes.specs.work.Grouping.{Part, has_side, grouped}
 use Rattle.eq_classes.specs.work.Building.{arranged, is_group_of, columns_by, members_of, class_with, with_mention, mention_in, left_by, by_conjuncts, by_order, all_classes}
 use Rattle.eq_classes.proofs.ListLemmas.{IsIn, Before, earlier_in, later_in, in_parts, in_from_contains, all_from, found_in, found_passes, any_from, any_at, pairs_all}

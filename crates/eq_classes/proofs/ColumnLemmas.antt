@@ -6,7 +6,7 @@ use Rattle.opfamily.specs.pg_value_operators_Family.{Family}
 use Rattle.opfamily.specs.pg_value_operators_Op.{Op}
 use Rattle.opfamily.specs.pg_value_value_SqlType.{SqlType}
 use Rattle.opfamily.specs.pg_value_value_Value.{Value}
-use Rattle.opfamily.specs.Answers.{default_family_of}
+use Rattle.opfamily.specs.Answers.{default_family_of, is_family}
 use Rattle.pg_expr.specs.declared.operand.ColRef.{ColRef}
 use Rattle.pg_expr.specs.declared.operand.Operand.{Operand}
 use Rattle.pg_expr.specs.declared.operand.Operand.TheVariants.{Col, Lit}
@@ -14,7 +14,7 @@ use Rattle.pg_expr.specs.Cond.{Cond, compare, is_null, is_not_null, bool_col, co
 use Rattle.pg_expr.specs.Columns.{passes_column, each_column}
 use Rattle.eq_classes.specs.declared.order.OrderItem.{OrderItem}
 use Rattle.eq_classes.specs.Equality.{Equality, equality_family, equal_in, equality_in, is_column, as_clause}
-use Rattle.eq_classes.specs.Classes.{Premises, Linked, conjunct, constant, same, turned, chain, Class, is_family, has_member, Mention, is_in, left_of, in_family, ordered_by, mentions, first_mention, IsClass, AreClasses}
+use Rattle.eq_classes.specs.Classes.{Premises, Linked, conjunct, constant, same, turned, chain, Class, has_member, Mention, is_in, left_of, in_family, ordered_by, mentions, first_mention, IsClass, AreClasses}
 use Rattle.eq_classes.specs.Clauses.{ClauseSource, Clause, clause, by_conjunct, by_class, by_pair, one, first_in, is_first, equals, equals_constant, conjunct_clauses, constant_clauses, inner_clause, inner_clauses, pair_clause, pair_clauses, has_constant, class_clauses, clauses_from, clause_list}
 use Rattle.eq_classes.proofs.ListLemmas.{IsIn, Before, in_parts, in_filter, in_filter_map, in_from_contains, all_at, earlier_in, later_in}
 use Rattle.eq_classes.proofs.EqualLemmas.{column_is, family_is}

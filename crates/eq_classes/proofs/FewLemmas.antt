@@ -12,7 +12,8 @@ use Rattle.pg_expr.specs.declared.operand.Operand.TheVariants.{Col, Lit}
 use Rattle.pg_expr.specs.Cond.{Cond}
 use Rattle.pg_expr.specs.Pushed.{is_lower}
 use Rattle.eq_classes.specs.Equality.{Equality, equality_in, is_column, is_other, are_equal}
-use Rattle.eq_classes.specs.Classes.{Premises, Linked, Class, is_family, has_member, Mention, mentions, first_mention, literals, distinct, IsClass, AreClasses}
+use Rattle.opfamily.specs.Answers.{is_family}
+use Rattle.eq_classes.specs.Classes.{Premises, Linked, Class, has_member, Mention, mentions, first_mention, literals, distinct, IsClass, AreClasses}
 use Rattle.eq_classes.specs.Clauses.{Clause, clause, by_class, one, first_in, is_same, is_first, equals, equals_constant, each_pair, conjunct_clauses, constant_clauses, inner_clause, inner_clauses, pair_clause, pair_clauses, has_constant, class_clauses, clauses_from, clause_list}
 use Rattle.eq_classes.specs.Grouping.{operand_columns}
 use Rattle.eq_classes.specs.work.Grouping.{Part, has_side, literals_in, started, united, touches, gathered, added, grouped}

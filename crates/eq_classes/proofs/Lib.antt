@@ -14,6 +14,7 @@ pub mod ListedLemmas
 pub mod MemberLemmas
 pub mod NamedLemmas
 pub mod PartitionLemmas
+pub mod PlainLemmas
 pub mod SearchLemmas
 pub mod SideLemmas
 pub mod SoundLemmas
@@ -27,3 +28,4 @@ pub mod WordLemmas
 pub mod WrittenLemmas
 pub mod DefaultLemmas
 pub mod ConditionLemmas
+pub mod GroupedLemmas

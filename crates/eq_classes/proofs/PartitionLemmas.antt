@@ -11,7 +11,8 @@ use Rattle.pg_expr.specs.declared.operand.Operand.{Operand}
 use Rattle.pg_expr.specs.declared.operand.Operand.TheVariants.{Col, Lit}
 use Rattle.pg_expr.specs.Cond.{Cond}
 use Rattle.eq_classes.specs.Equality.{Equality, equal_in, equality_in, is_column, is_other, are_equal}
-use Rattle.eq_classes.specs.Classes.{Premises, Linked, conjunct, constant, same, turned, chain, is_family}
+use Rattle.opfamily.specs.Answers.{is_family}
+use Rattle.eq_classes.specs.Classes.{Premises, Linked, conjunct, constant, same, turned, chain}
 use Rattle.eq_classes.specs.Grouping.{operand_columns}
 use Rattle.eq_classes.specs.work.Grouping.{Part, has_side, literals_in, started, united, touches, gathered, added, grouped}
 use Rattle.eq_classes.proofs.ListLemmas.{IsIn, Before, in_left, in_right, in_parts, in_filter, filter_in, before_filter, either_before, contains_from_in, in_from_contains, any_from, any_at}

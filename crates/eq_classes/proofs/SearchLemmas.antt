@@ -6,7 +6,8 @@ use Rattle.opfamily.specs.pg_value_value_SqlType.{SqlType}
 use Rattle.opfamily.specs.pg_value_value_Value.{Value}
 use Rattle.opfamily.specs.pg_value_work_Order.{IsOfFamily}
 use Rattle.pg_expr.specs.declared.operand.ColRef.{ColRef}
-use Rattle.eq_classes.specs.Classes.{Class, is_family, has_member, is_in, left_of, in_family, is_some_and}
+use Rattle.opfamily.specs.Answers.{is_family}
+use Rattle.eq_classes.specs.Classes.{Class, has_member, is_in, left_of, in_family, is_some_and}
 use Rattle.eq_classes.specs.work.Building.{noted, noted_option, left_by}
 use Rattle.eq_classes.specs.Equality.{Equality, equality_in, as_clause}
 use Rattle.pg_expr.specs.Cond.{Cond}

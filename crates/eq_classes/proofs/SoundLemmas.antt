@@ -1,4 +1,4 @@
--- In the classes of well typed conjuncts the values fit the family of their class, under each binding that fits the types.
+-- In the classes of well typed conjuncts the family of each takes the types of its columns, and the values fit it under each binding that fits the types.
 use Rattle.std.proofs.Common.{◌≡◌, suc, ◌+◌, ◌<◌, Bool, true, false, not, ◌&&◌, ◌⊎◌, inl, inr, ⊎_elim, List, [], ◌∷◌, length, filter_map, nat_eq, nat_lt, All, AllPairs, Contains, Option, Some, None, option_map, refl, sym, ap, ◌∙◌, subst, arith}
 use Rattle.std.specs.List.{position_or_len}
 use Rattle.std.proofs.lemmas.Bool.{cases_Bool, and_parts, or_cases, ltb-true}
@@ -11,16 +11,17 @@ use Rattle.pg_expr.specs.declared.operand.Operand.{Operand}
 use Rattle.pg_expr.specs.declared.operand.Operand.TheVariants.{Col, Lit}
 use Rattle.pg_expr.specs.Cond.{Cond}
 use Rattle.pg_expr.specs.Pushed.{is_lower}
-use Rattle.pg_expr.specs.Truths.{value_of}
-use Rattle.pg_expr.specs.Typed.{IsTyped}
-use Rattle.opfamily.specs.Answers.{default_family_of}
+use Rattle.pg_expr.specs.Typed.{IsTyped, some_value}
+use Rattle.opfamily.specs.Answers.{default_family_of, is_family, takes}
 use Rattle.eq_classes.specs.declared.order.OrderItem.{OrderItem}
 use Rattle.eq_classes.specs.Equality.{Equality, equal_in, equality_in, is_column, are_equal}
-use Rattle.eq_classes.specs.Classes.{Premises, Linked, conjunct, constant, same, turned, chain, Class, is_family, has_member, Mention, is_in, left_of, in_family, ordered_by, mentions, first_mention, literal_of, literal_in, literals, distinct, IsClass, AreClasses}
+use Rattle.eq_classes.specs.Classes.{Premises, Linked, conjunct, constant, same, turned, chain, Class, has_member, Mention, is_in, left_of, in_family, ordered_by, mentions, first_mention, literal_of, literal_in, literals, distinct, IsClass, AreClasses}
+use Rattle.eq_classes.specs.work.Grouping.{Suits}
 use Rattle.eq_classes.specs.work.Holding.{Fits}
 use Rattle.eq_classes.proofs.ListLemmas.{IsIn, Before, in_parts, in_filter, in_filter_map, in_from_contains, all_at, pairs_at, any_from, any_at}
 use Rattle.eq_classes.proofs.EqualLemmas.{column_is, family_is}
-use Rattle.eq_classes.proofs.SideLemmas.{left_fits, right_fits, ordered_fits}
+use Rattle.eq_classes.proofs.DefaultLemmas.{default_takes, takes_fits}
+use Rattle.eq_classes.proofs.SideLemmas.{TakesSide, left_takes, right_suits, right_takes, type_fits}
 use Rattle.eq_classes.proofs.ClassHoldLemmas.{IsSound, column_self}
 
 pub member_in : (c : Class) (x : ColRef) → has_member c x ≡ true → IsIn x c.members
@@ -90,42 +91,37 @@ members_differ c rising x y before = ⊎_elim
     (λ (t : is_column x y ≡ false). t)
     (cases_Bool (is_column x y))
 
-module _ (g : Premises) (b : ColRef → Value) (typed : All (IsTyped g.type_of) g.conjuncts) (fits : Fits g.type_of b) where
-  abbrev Fitting : Family → Operand → Type 0
-  Fitting f (Col c) = IsOfFamily f (b c)
-  Fitting f (Lit v) = Unit {0}
-
-  fitting_right : (f : Family) (o : Operand) → IsOfFamily f (value_of b o) → Fitting f o
-  fitting_right f (Col d) h = h
-  fitting_right f (Lit v) h = tt
+module _ (g : Premises) (typed : All (IsTyped g.type_of) g.conjuncts) where
+  abbrev Taken : Family → Operand → Type 0
+  Taken f o = TakesSide g.type_of f o
 
   typed_at : (k : Cond) → Contains g.conjuncts k → IsTyped g.type_of k
   typed_at k i = all_at (IsTyped g.type_of) g.conjuncts typed k (in_from_contains g.conjuncts k i)
 
-  linked_fits : (f : Family) (x y : Operand) → Linked g f x y → (x ≡ y) ⊎ ((Fitting f x) × (Fitting f y))
-  linked_fits f x y (conjunct k c o i e) = inr (left_fits g.type_of b fits k (equal_in c o f) e (typed_at k i), fitting_right f o (right_fits g.type_of b fits k (equal_in c o f) e (typed_at k i)))
-  linked_fits f x y (constant v w e) = inr (tt, tt)
-  linked_fits f x y (same z) = inl refl
-  linked_fits f x y (turned u v l) = ⊎_elim (λ e. inl (sym e)) (λ h. inr (h.1, h.0)) (linked_fits f u v l)
-  linked_fits f x y (chain u v w l m) = ⊎_elim
-      (λ (e : u ≡ v). ⊎_elim (λ (e' : v ≡ w). inl (e ∙ e')) (λ (h : (Fitting f v) × (Fitting f w)). inr (subst (Fitting f) (sym e) h.0, h.1)) (linked_fits f v w m))
-      (λ (h : (Fitting f u) × (Fitting f v)). ⊎_elim (λ (e' : v ≡ w). inr (h.0, subst (Fitting f) e' h.1)) (λ (h' : (Fitting f v) × (Fitting f w)). inr (h.0, h'.1)) (linked_fits f v w m))
-      (linked_fits f u v l)
+  linked_takes : (f : Family) (x y : Operand) → Linked g f x y → (x ≡ y) ⊎ ((Taken f x) × (Taken f y))
+  linked_takes f x y (conjunct k c o i e) = inr (left_takes g.type_of k (equal_in c o f) e (typed_at k i), right_takes g.type_of k (equal_in c o f) e (typed_at k i))
+  linked_takes f x y (constant v w e) = inr (tt, tt)
+  linked_takes f x y (same z) = inl refl
+  linked_takes f x y (turned u v l) = ⊎_elim (λ e. inl (sym e)) (λ h. inr (h.1, h.0)) (linked_takes f u v l)
+  linked_takes f x y (chain u v w l m) = ⊎_elim
+      (λ (e : u ≡ v). ⊎_elim (λ (e' : v ≡ w). inl (e ∙ e')) (λ (h : (Taken f v) × (Taken f w)). inr (subst (Taken f) (sym e) h.0, h.1)) (linked_takes f v w m))
+      (λ (h : (Taken f u) × (Taken f v)). ⊎_elim (λ (e' : v ≡ w). inr (h.0, subst (Taken f) e' h.1)) (λ (h' : (Taken f v) × (Taken f w)). inr (h.0, h'.1)) (linked_takes f v w m))
+      (linked_takes f u v l)
 
-  mention_of : (m : Mention) (k : Cond) → IsIn k g.conjuncts → (o : Option Equality) → equality_in g.type_of k ≡ o → option_map left_of o ≡ Some m → IsOfFamily m.family (b m.column)
+  mention_of : (m : Mention) (k : Cond) → IsIn k g.conjuncts → (o : Option Equality) → equality_in g.type_of k ≡ o → option_map left_of o ≡ Some m → takes m.family (g.type_of m.column) ≡ true
   mention_of m k i None e h = cc
   mention_of m k i (Some q) e h =
       let is : left_of q ≡ m = same_Some (left_of q) m h in
-      subst (λ (n : Mention). IsOfFamily n.family (b n.column)) is (left_fits g.type_of b fits k q e (all_at (IsTyped g.type_of) g.conjuncts typed k i))
+      subst (λ (n : Mention). takes n.family (g.type_of n.column) ≡ true) is (left_takes g.type_of k q e (all_at (IsTyped g.type_of) g.conjuncts typed k i))
 
-  mention_by : (m : Mention) (item : OrderItem) (o : Option Family) → default_family_of (g.type_of item.col) ≡ o → option_map (in_family item.col) o ≡ Some m → IsOfFamily m.family (b m.column)
+  mention_by : (m : Mention) (item : OrderItem) (o : Option Family) → default_family_of (g.type_of item.col) ≡ o → option_map (in_family item.col) o ≡ Some m → takes m.family (g.type_of m.column) ≡ true
   mention_by m item None e h = cc
   mention_by m item (Some f) e h =
       let is : in_family item.col f ≡ m = same_Some (in_family item.col f) m h in
-      subst (λ (n : Mention). IsOfFamily n.family (b n.column)) is (ordered_fits g.type_of b fits item.col f e)
+      subst (λ (n : Mention). takes n.family (g.type_of n.column) ≡ true) is (default_takes (g.type_of item.col) f e)
 
-  mention_fits : (m : Mention) → IsIn m (mentions g) → IsOfFamily m.family (b m.column)
-  mention_fits m h = ⊎_elim
+  mention_takes : (m : Mention) → IsIn m (mentions g) → takes m.family (g.type_of m.column) ≡ true
+  mention_takes m h = ⊎_elim
       (λ (left : IsIn m (filter_map (λ k. option_map left_of (equality_in g.type_of k)) g.conjuncts)).
       let w = in_filter_map (λ k. option_map left_of (equality_in g.type_of k)) g.conjuncts m left in
       mention_of m w.0 w.1 (equality_in g.type_of w.0) refl w.2)
@@ -138,22 +134,30 @@ module _ (g : Premises) (b : ColRef → Value) (typed : All (IsTyped g.type_of) 
     pub is_class : IsClass g c
     is_class = all_at (IsClass g) classes are.each c i
 
-    member_fits : (x : ColRef) → IsIn x c.members → IsOfFamily c.family (b x)
-    member_fits x ix =
+    -- the family of a class takes the types of its columns
+    pub member_takes : (x : ColRef) → IsIn x c.members → takes c.family (g.type_of x) ≡ true
+    member_takes x ix =
         let w = position_found (is_in c) (mentions g) (all_at (λ d. first_mention g d < length (mentions g)) classes are.none_else c i) in
         let m : Mention = w.0 in
         let parts = and_parts (is_family c.family m.family) (has_member c m.column) w.2 in
-        let known : IsOfFamily c.family (b m.column) = subst (λ (f : Family). IsOfFamily f (b m.column)) (sym (family_is c.family m.family parts.0)) (mention_fits m w.1) in
+        let known : takes c.family (g.type_of m.column) ≡ true = subst (λ (f : Family). takes f (g.type_of m.column) ≡ true) (sym (family_is c.family m.family parts.0)) (mention_takes m w.1) in
         ⊎_elim
-        (λ (e : Col m.column ≡ Col x). subst (Fitting c.family) e known)
-        (λ (h : (Fitting c.family (Col m.column)) × (Fitting c.family (Col x))). h.1)
-        (linked_fits c.family (Col m.column) (Col x) ((is_class.joined m.column x parts.1).0 (in_member c x ix)))
+        (λ (e : Col m.column ≡ Col x). subst (Taken c.family) e known)
+        (λ (h : (Taken c.family (Col m.column)) × (Taken c.family (Col x))). h.1)
+        (linked_takes c.family (Col m.column) (Col x) ((is_class.joined m.column x parts.1).0 (in_member c x ix)))
 
-    constant_fits : (v : Value) → IsIn v c.constants → IsOfFamily c.family v
+    pub constant_fits : (v : Value) → IsIn v c.constants → IsOfFamily c.family v
     constant_fits v iv =
         let q = literal_stands g c v (distinct_in c.family (literals g c) v (subst (λ (vs : List Value). IsIn v vs) is_class.constants iv)) in
-        let h : IsOfFamily q.equality.family (value_of b q.equality.right) = right_fits g.type_of b fits q.cond q.equality q.is (all_at (IsTyped g.type_of) g.conjuncts typed q.cond q.given) in
-        subst (λ (f : Family). IsOfFamily f v) (sym q.family) (subst (λ (o : Operand). IsOfFamily q.equality.family (value_of b o)) q.right h)
+        let h : Suits q.equality.family q.equality.right = right_suits g.type_of q.cond q.equality q.is (all_at (IsTyped g.type_of) g.conjuncts typed q.cond q.given) in
+        subst (λ (f : Family). IsOfFamily f v) (sym q.family) (subst (Suits q.equality.family) q.right h)
 
-    pub class_sound : IsSound b c
-    class_sound = record { fits = member_fits; known = constant_fits; differ = members_differ c is_class.rising }
+    -- so does some value of each column's type
+    pub sample_sound : IsSound (λ x. some_value (g.type_of x)) c
+    sample_sound = record { fits = λ x ix. takes_fits c.family (g.type_of x) (member_takes x ix); known = constant_fits; differ = members_differ c is_class.rising }
+
+    sound_at : (b : ColRef → Value) → Fits g.type_of b → IsSound b c
+    sound_at b fits = record { fits = λ x ix. type_fits c.family (g.type_of x) (b x) (sample_sound.fits x ix) (fits x); known = constant_fits; differ = members_differ c is_class.rising }
+
+pub class_sound : (g : Premises) (b : ColRef → Value) (typed : All (IsTyped g.type_of) g.conjuncts) → Fits g.type_of b → (classes : List Class) → AreClasses g classes → (c : Class) → IsIn c classes → IsSound b c
+class_sound g b typed fits classes are c i = sound_at g typed classes are c i b fits

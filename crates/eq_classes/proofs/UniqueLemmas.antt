@@ -7,7 +7,8 @@ use Rattle.opfamily.specs.pg_value_value_Value.{Value}
 use Rattle.pg_expr.specs.declared.operand.ColRef.{ColRef}
 use Rattle.pg_expr.specs.declared.operand.Operand.TheVariants.{Col}
 use Rattle.pg_expr.specs.Pushed.{is_lower}
-use Rattle.eq_classes.specs.Classes.{Premises, Linked, Class, is_family, has_member, Mention, is_in, mentions, first_mention, IsClass, AreClasses}
+use Rattle.opfamily.specs.Answers.{is_family}
+use Rattle.eq_classes.specs.Classes.{Premises, Linked, Class, has_member, Mention, is_in, mentions, first_mention, IsClass, AreClasses}
 use Rattle.eq_classes.specs.Clauses.{Clause, clause_list, ClassTable}
 use Rattle.eq_classes.specs.Holding.{IsClassTable}
 use Rattle.eq_classes.proofs.ListLemmas.{IsIn, Before, all_at, pairs_at, any_at}

@@ -16,7 +16,8 @@ use Rattle.pg_expr.specs.Columns.{passes_column, each_column}
 use Rattle.pg_expr.specs.Truths.{value_of, truth_at}
 use Rattle.pg_expr.specs.Typed.{IsTyped}
 use Rattle.eq_classes.specs.Equality.{Equality, equal_in, equality_in, is_column, are_equal, is_other, as_clause}
-use Rattle.eq_classes.specs.Classes.{Premises, conjunct, Class, is_family, has_member, is_in, left_of, ordered_by, mentions, literal_of, literal_in, literals, distinct, IsClass, AreClasses}
+use Rattle.opfamily.specs.Answers.{is_family}
+use Rattle.eq_classes.specs.Classes.{Premises, conjunct, Class, has_member, is_in, left_of, ordered_by, mentions, literal_of, literal_in, literals, distinct, IsClass, AreClasses}
 use Rattle.eq_classes.specs.Clauses.{Set, by_conjunct, Clause, clause, conjunct_clauses, has_constant, class_clauses, clauses_from, clause_list}
 use Rattle.eq_classes.specs.Parts.{has_column, is_inside, is_all}
 use Rattle.eq_classes.specs.work.Holding.{hold, Fits}
@@ -94,7 +95,7 @@ module _ (g : Premises) (classes : List Class) (are : AreClasses g classes) (b :
   sound c i = class_sound g b typed fits classes are c i
 
   own : (c : Class) → IsIn c classes → IsClass g c
-  own c i = is_class g b typed fits classes are c i
+  own c i = is_class g typed classes are c i
 
   written_at : (c : Class) (k : Cond) (e : Equality) (v : Value) → equality_in g.type_of k ≡ Some e → c.family ≡ e.family → IsIn e.left c.members → e.right ≡ Lit v → literal_in c (equality_in g.type_of k) ≡ Some v
   written_at c k e v h family il right =

@@ -4,12 +4,12 @@ use Rattle.std.specs.List.{position_or_len, cons_option}
 use Rattle.std.proofs.lemmas.Bool.{cases_Bool, cases_lt, and_parts, true≢false, lt-ltb, ltb-true}
 use Rattle.std.proofs.lemmas.Option.{same_Some}
 use Rattle.opfamily.specs.pg_value_operators_Family.{Family}
-use Rattle.opfamily.specs.Answers.{default_family_of}
+use Rattle.opfamily.specs.Answers.{default_family_of, is_family}
 use Rattle.pg_expr.specs.declared.operand.ColRef.{ColRef}
 use Rattle.pg_expr.specs.Cond.{Cond}
 use Rattle.eq_classes.specs.declared.order.OrderItem.{OrderItem}
 use Rattle.eq_classes.specs.Equality.{equality_in}
-use Rattle.eq_classes.specs.Classes.{Premises, Class, is_family, has_member, Mention, is_in, left_of, in_family, ordered_by, mentions, first_mention, IsClass, AreClasses}
+use Rattle.eq_classes.specs.Classes.{Premises, Class, has_member, Mention, is_in, left_of, in_family, ordered_by, mentions, first_mention, IsClass, AreClasses}
 use Rattle.eq_classes.proofs.ListLemmas.{IsIn, Before, earlier_in, later_in, in_at, in_filter, before_filter, in_filter_map, all_at, pairs_at}
 use Rattle.eq_classes.proofs.EqualLemmas.{column_is, family_is}
 use Rattle.eq_classes.proofs.UniqueLemmas.{meeting}

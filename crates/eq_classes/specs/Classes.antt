@@ -1,11 +1,12 @@
 -- The classes of a list of conjuncts in pushed form and an ORDER BY.
 -- Source: PostgreSQL, src/backend/optimizer/README (EquivalenceClasses); numbers and orders are own.
-use Rattle.std.specs.Prelude.{◌≡◌, ◌↔◌, flat_map, ◌<◌, ℕ, Bool, true, false, not, cond, ◌&&◌, nat_eq, IsTrue, List, [], ◌∷◌, ◌++◌, length, filter, find, filter_map, All, AllPairs, Contains, Option, Some, None, option_map}
+use Rattle.std.specs.Prelude.{◌≡◌, ◌↔◌, flat_map, ◌<◌, ℕ, Bool, true, false, not, cond, ◌&&◌, IsTrue, List, [], ◌∷◌, ◌++◌, length, filter, find, filter_map, All, AllPairs, Contains, Option, Some, None, option_map}
 use Rattle.std.specs.List.{list_any, position_or_len, position_from}
 use Rattle.opfamily.specs.pg_value_operators_Family.{Family}
+use Rattle.opfamily.specs.pg_value_operators_Family_TheVariants as families
 use Rattle.opfamily.specs.pg_value_value_SqlType.{SqlType}
 use Rattle.opfamily.specs.pg_value_value_Value.{Value}
-use Rattle.opfamily.specs.Answers.{family_place, default_family_of}
+use Rattle.opfamily.specs.Answers.{is_family, default_family_of}
 use Rattle.pg_expr.specs.declared.operand.ColRef.{ColRef}
 use Rattle.pg_expr.specs.declared.operand.Operand.{Operand}
 use Rattle.pg_expr.specs.declared.operand.Operand.TheVariants.{Col, Lit}
@@ -38,10 +39,6 @@ pub record Class : Type 0 where
   pub descending : Bool
   pub nulls_first : Bool
 
--- two families are one; classes of different families stay apart (README, EquivalenceClasses: ec_opfamilies)
-abbrev pub is_family : Family → Family → Bool
-is_family f g = nat_eq (family_place f) (family_place g)
-
 -- a column is one of the class's, whatever the family
 abbrev pub has_member : Class → ColRef → Bool
 has_member c x = list_any (is_column x) c.members
@@ -51,7 +48,7 @@ pub record Mention : Type 0 where
   pub family : Family
   pub column : ColRef
 
--- a column beside a family is in a class: it is a member, and the class is of this family
+-- a column beside a family is in a class: it is a member, and the class is of this family; classes of different families stay apart (README, EquivalenceClasses: ec_opfamilies)
 abbrev pub is_in : Class → Mention → Bool
 is_in c m = is_family c.family m.family && has_member c m.column
 
@@ -66,6 +63,19 @@ in_family x f = record { family = f; column = x }
 -- the number of the class that has a column in a family, or none
 abbrev pub class_number : List Class → Mention → Option ℕ
 class_number classes m = position_from (λ c. is_in c m) 0 classes
+
+-- a family is that of absolute values, in which a column stands by an operator alone and never by its type
+abbrev pub is_abs : Family → Bool
+is_abs families.IntAbs = true
+is_abs _ = false
+
+-- a class of another family than that of absolute values has the column
+abbrev pub is_plain : ColRef → Class → Bool
+is_plain x c = not (is_abs c.family) && has_member c x
+
+-- the number of the class that has a column in the family of its type, or none: a well typed query has it in one class at most but those of absolute values
+abbrev pub plain_class : List Class → ColRef → Option ℕ
+plain_class classes x = position_from (is_plain x) 0 classes
 
 -- an ORDER BY item's column beside its default family
 abbrev pub ordered_by : (ColRef → SqlType) → OrderItem → Option Mention

@@ -8,7 +8,7 @@ ghost use Rattle.pg_expr.specs.Pushed.{is_lower};
 ghost use Rattle.pg_expr.specs.Typed.{IsTyped, AreTyped};
 ghost use Rattle.pg_expr.specs.work.View as view;
 ghost use Rattle.eq_classes.specs.Equality.{is_column, are_equal};
-ghost use Rattle.eq_classes.specs.Classes.{is_in, in_family, orders_by};
+ghost use Rattle.eq_classes.specs.Classes.{is_in, in_family, is_plain, orders_by};
 ghost use Rattle.opfamily.specs.pg_base_Sets.{has};
 ghost use Rattle.eq_classes.specs.Clauses.{has_constant, first_in, one, is_first};
 ghost use Rattle.eq_classes.specs.work.Clauses.{as_first};
@@ -17,7 +17,9 @@ ghost use Rattle.eq_classes.specs.work.Parts.{is_number};
 ghost use Rattle.eq_classes.specs.work.Building.{IsMasked, inserted, arranged, is_group_of, members_of, over, noted, AreBoundBy, literal_by, with_value, with_lent, AreConstantsBy, order_direction, class_from, PlacesColumn, PlacesConjunct, PlacesItem, PlacesConjuncts, PlacesItems, AreClassesFrom};
 ghost use Rattle.std.specs.Option.{option_copied};
 
-use crate::equality::{equal_values, equality, same_column, same_family, stands_before};
+use crate::equality::{
+    equal_values, equality, is_absolute, same_column, same_family, stands_before,
+};
 use crate::group::{Group, group_all};
 use crate::order::OrderItem;
 use crate::rel_sets::shared;
@@ -179,6 +181,13 @@ impl EqClass {
         ensures { result ≡ is_in self.now (in_family x f) }
     {
         same_family(self.family, f) && has_column(&self.members, x)
+    }
+
+    /// Whether the class has the column, and is of another family than that of absolute values.
+    pub fn is_plain(&self, x: ColRef) -> bool
+        ensures { result ≡ is_plain x self.now }
+    {
+        !is_absolute(self.family) && has_column(&self.members, x)
     }
 }
 

@@ -58,7 +58,7 @@ impl Classes {
     ghost use Rattle.std.specs.Prelude.{List, true, map, drop, ℕ, IfSome, IfNone};
     ghost use Rattle.opfamily.specs.pg_base_Sets.{has};
     ghost use Rattle.opfamily.specs.pg_base_limits_TheConstants.{MOST_CONJUNCTS};
-    ghost use Rattle.eq_classes.specs.Classes.{in_family, class_number, conjuncts_in};
+    ghost use Rattle.eq_classes.specs.Classes.{in_family, class_number, plain_class, conjuncts_in};
     ghost use Rattle.eq_classes.specs.Clauses.{Set, one, first_in, has_constant};
     ghost use Rattle.eq_classes.specs.Parts as parts;
     ghost use Rattle.eq_classes.specs.work.Parts as parts_work;
@@ -186,6 +186,20 @@ impl Classes {
     {
         for n in 0..self.classes.len() {
             if self.classes[n].is_of(f, c) {
+                return Some(ClassNo(n as u16));
+            }
+        }
+        None
+    }
+
+    /// The class of a column in the family of its type: of the families but that of absolute values. None exactly where
+    /// the column is in no such class.
+    pub fn plain_class_of(&self, c: ColRef) -> Option<ClassNo>
+        ensures class { class_no result ≡ plain_class self.now.classes c }
+        ensures within { IfSome result (λ n. n.0 < length self.now.classes) }
+    {
+        for n in 0..self.classes.len() {
+            if self.classes[n].is_plain(c) {
                 return Some(ClassNo(n as u16));
             }
         }

@@ -2,17 +2,15 @@
 use Rattle.std.proofs.Common.{◌≡◌, ◌≢◌, ◌<◌, ◌≤◌, ◌+◌, ℕ, suc, Bool, true, false, not, cond, ◌&&◌, ◌||◌, nat_eq, List, [], ◌∷◌, ◌++◌, length, take, drop, filter, append-nil, All, Option, Some, None, refl, sym, ap, ◌∙◌, arith}
 use Rattle.std.specs.Prelude.{filter_map, IfSome}
 use Rattle.std.specs.List.{cons_option, position_from}
-use Rattle.std.specs.Option.{option_or}
 use Rattle.std.proofs.lemmas.Bool.{true≢false, eq-eqb, eqb-true, eqb-false, ne_eqb}
 use Rattle.std.proofs.lemmas.List.Elements.{All-cons, All-nil, All-filter, filter_agree, filter_passes, All-weaker}
 use Rattle.std.proofs.lemmas.List.Kept.{AllPairs-cons, AllPairs-filter}
 use Rattle.std.proofs.lemmas.List.{drop_all}
 use Rattle.std.proofs.lemmas.List.Folds.{list_any-append}
 use Rattle.catalog.specs.pg_value_operators_Family.{Family}
-use Rattle.catalog.specs.pg_value_operators_Family_TheVariants as families
 use Rattle.catalog.specs.pg_expr_operand_ColRef.{ColRef}
 use Rattle.eq_classes.specs.declared.order.OrderItem.{OrderItem}
-use Rattle.eq_classes.specs.Classes.{is_in, in_family}
+use Rattle.eq_classes.specs.Classes.{is_in, in_family, is_plain}
 use Rattle.eq_classes.specs.Clauses.{ClassTable}
 use Rattle.pathkeys.specs.Keys.{Keys, AreDifferent, is_constant, class_of, order_class, once, order_keys}
 use Rattle.pathkeys.specs.work.Keys.{IsKeyList}
@@ -81,21 +79,18 @@ position_within {A} p i (x ∷ xs) = by (position_within p (i + 1) xs) (p x)
     by later true = omega arith
     by later false = more (position_from p (i + 1) xs) later
 
-pub class_within : (t : ClassTable) (x : ColRef) (f : Family) → IfSome (class_of t x f) (λ n. n < length t.classes)
-class_within t x f = from_0 (class_of t x f) (position_within (λ c. is_in c (in_family x f)) 0 t.classes)
+place_within : {A : Type 0} (p : A → Bool) (xs : List A) → IfSome (position_from p 0 xs) (λ n. n < length xs)
+place_within p xs = from_0 (position_from p 0 xs) (position_within p 0 xs)
   where
-    from_0 : (o : Option ℕ) → IfSome o (λ n. n < 0 + length t.classes) → IfSome o (λ n. n < length t.classes)
+    from_0 : (o : Option ℕ) → IfSome o (λ n. n < 0 + length xs) → IfSome o (λ n. n < length xs)
     from_0 None h = tt
     from_0 (Some n) h = omega (arith, h)
 
-or_within : (L : ℕ) (o p : Option ℕ) → IfSome o (λ n. n < L) → IfSome p (λ n. n < L) → IfSome (option_or o p) (λ n. n < L)
-or_within L None p h k = k
-or_within L (Some n) p h k = h
+pub class_within : (t : ClassTable) (x : ColRef) (f : Family) → IfSome (class_of t x f) (λ n. n < length t.classes)
+class_within t x f = place_within (λ c. is_in c (in_family x f)) t.classes
 
 order_class_within : (t : ClassTable) (x : ColRef) → IfSome (order_class t x) (λ n. n < length t.classes)
-order_class_within t x =
-    or_within (length t.classes) (class_of t x families.Integer) (option_or (class_of t x families.Text) (class_of t x families.Bool)) (class_within t x families.Integer)
-    (or_within (length t.classes) (class_of t x families.Text) (class_of t x families.Bool) (class_within t x families.Text) (class_within t x families.Bool))
+order_class_within t x = place_within (is_plain x) t.classes
 
 module _ (t : ClassTable) where
   abbrev class_by : OrderItem → Option ℕ

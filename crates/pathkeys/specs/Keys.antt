@@ -1,10 +1,8 @@
 -- Key lists: the classes by which rows are known to be sorted. Source: PostgreSQL, src/backend/optimizer/README (PathKeys).
 use Rattle.std.specs.Prelude.{◌≢◌, ℕ, Bool, true, false, not, cond, ◌&&◌, ◌||◌, nat_eq, List, [], ◌∷◌, filter, filter_map, AllPairs, Option, Some, None}
 use Rattle.std.specs.List.{list_any}
-use Rattle.std.specs.Option.{option_or}
 use Rattle.pg_base.specs.declared.numbers.IndexNo.{IndexNo}
 use Rattle.catalog.specs.pg_value_operators_Family.{Family}
-use Rattle.catalog.specs.pg_value_operators_Family_TheVariants as families
 use Rattle.catalog.specs.opfamily_KeyOrder.{key_family}
 use Rattle.catalog.specs.opfamily_classes_IndexKey.{IndexKey}
 use Rattle.catalog.specs.opfamily_classes_Method.{Method}
@@ -12,7 +10,7 @@ use Rattle.catalog.specs.opfamily_classes_Method_TheVariants.{Btree, Hash}
 use Rattle.catalog.specs.pg_expr_operand_ColRef.{ColRef}
 use Rattle.catalog.specs.Contents.{Contents, index_at}
 use Rattle.eq_classes.specs.declared.order.OrderItem.{OrderItem}
-use Rattle.eq_classes.specs.Classes.{Class, class_number, in_family}
+use Rattle.eq_classes.specs.Classes.{Class, class_number, in_family, plain_class}
 use Rattle.eq_classes.specs.Clauses.{ClassTable, has_constant}
 use Rattle.eq_classes.specs.Listing.{class_at}
 
@@ -32,9 +30,9 @@ is_constant t n = has_constant (class_at t.classes n)
 abbrev pub class_of : ClassTable → ColRef → Family → Option ℕ
 class_of t x f = class_number t.classes (in_family x f)
 
--- the class of a column in its default family: that of integers, of text or of booleans, of which a type has one
+-- the class of a column in the family of its type
 abbrev pub order_class : ClassTable → ColRef → Option ℕ
-order_class t x = option_or (class_of t x families.Integer) (option_or (class_of t x families.Text) (class_of t x families.Bool))
+order_class t x = plain_class t.classes x
 
 -- each number that stands nowhere before it
 abbrev pub once : List ℕ → List ℕ

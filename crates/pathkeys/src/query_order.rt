@@ -11,20 +11,17 @@ ghost use Rattle.eq_classes.specs.work.Listing.{class_no};
 use crate::index_order::is_found;
 use crate::keys::{Keys, keys_of};
 use catalog::pg_expr::ColRef;
-use catalog::pg_value::Family;
 use eq_classes::{ClassNo, Classes, OrderItem};
 use pg_base::Memory;
 use smallvec::SmallVec;
 use std::alloc::Global;
 
-/// The class of a column in its default family: that of integers, of text or of booleans, of which a type has one.
+/// The class of a column in the family of its type.
 pub fn order_class(classes: &Classes, x: ColRef) -> Option<ClassNo>
     ensures class { class_no result ≡ order_class classes.now x }
     ensures within { IfSome result (λ c. c.0 < length classes.now.classes) }
 {
-    let text = classes.class_of(x, Family::Text);
-    let either = text.or(classes.class_of(x, Family::Bool));
-    classes.class_of(x, Family::Integer).or(either)
+    classes.plain_class_of(x)
 }
 
 /// Whether one of the items is by the class.

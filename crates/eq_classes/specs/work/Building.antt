@@ -12,7 +12,8 @@ use Rattle.pg_expr.specs.Pushed.{is_lower}
 use Rattle.pg_expr.specs.work.View as view
 use Rattle.eq_classes.specs.declared.order.OrderItem.{OrderItem}
 use Rattle.eq_classes.specs.Equality.{Equality, equality_in, is_column, are_equal}
-use Rattle.eq_classes.specs.Classes.{Premises, Class, is_family, Mention, is_in, left_of, ordered_by, literals, direction_of, AreClasses, in_family, literal_in}
+use Rattle.opfamily.specs.Answers.{is_family}
+use Rattle.eq_classes.specs.Classes.{Premises, Class, Mention, is_in, left_of, ordered_by, literals, direction_of, AreClasses, in_family, literal_in}
 use Rattle.eq_classes.specs.work.Grouping.{Part, grouped}
 use Rattle.std.specs.declared.alloc.Global.{Global}
 use Rattle.std.specs.Borrow.{Bor}

@@ -1,5 +1,5 @@
 -- Working words beside those of `Equality`.
-use Rattle.std.specs.Prelude.{cond, Some, ◌≡◌}
+use Rattle.std.specs.Prelude.{Some, ◌≡◌}
 use Rattle.opfamily.specs.pg_value_operators_Family.{Family}
 use Rattle.opfamily.specs.pg_value_value_SqlType.{SqlType}
 use Rattle.pg_expr.specs.declared.operand.ColRef.{ColRef}

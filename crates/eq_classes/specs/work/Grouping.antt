@@ -11,7 +11,7 @@ use Rattle.pg_expr.specs.declared.operand.Operand.TheVariants.{Col, Lit}
 use Rattle.pg_expr.specs.Cond.{Cond}
 use Rattle.pg_expr.specs.work.View as view
 use Rattle.eq_classes.specs.Equality.{Equality, equality_in, is_column, are_equal}
-use Rattle.eq_classes.specs.Classes.{is_family}
+use Rattle.opfamily.specs.Answers.{is_family}
 use Rattle.pg_expr.specs.declared.expr.Expr.{Expr}
 use Rattle.eq_classes.specs.Grouping.{operand_columns}
 

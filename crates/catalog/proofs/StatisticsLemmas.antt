@@ -1,12 +1,12 @@
 -- Statistics of which nothing is refused are lawful, and the first places tell of all.
-use Rattle.std.proofs.Common.{◌≡◌, ◌≢◌, ◌<◌, ◌≤◌, ◌+◌, ◌-◌, ◌*◌, ◌%◌, ◌&&◌, ◌∙◌, inl, inr, [], ◌∷◌, ℕ, Bool, true, false, nat_eq, nat_le, nat_lt, List, length, take, zero, suc, get_or, refl, sym, ap, arith, cond, min, get_or-take}
+use Rattle.std.proofs.Common.{◌≡◌, ◌≢◌, ◌<◌, ◌≤◌, ◌+◌, ◌-◌, ◌*◌, ◌%◌, ◌&&◌, ◌∙◌, inl, inr, [], ◌∷◌, ℕ, Bool, true, false, nat_eq, nat_le, nat_lt, List, length, take, zero, suc, get_or, refl, sym, ap, subst, arith, cond, min, get_or-take, All}
 use Rattle.std.specs.List.{list_any}
 use Rattle.std.proofs.lemmas.Bool.{cases_lt, or_parts, and_parts, not-false, leb-false, ltb-false, or_from}
 use Rattle.std.proofs.lemmas.Bool.Decides.{nat_tests}
 use Rattle.std.proofs.lemmas.List.{get_or_default, length-take, take_all}
 use Rattle.std.proofs.lemmas.List.Sums.{sum_by-take-le}
 use Rattle.opfamily.specs.pg_value_value_SqlType.{SqlType}
-use Rattle.catalog.specs.Statistics.{AreAllowed, AreValuesOf, Common, IsLawfulStatistics, Statistics, bound_at, bound_number_at, common_at, is_below, is_bound_refused, is_common_refused, is_equal, is_refused, is_share_refused, no_common, pair_of, shares}
+use Rattle.catalog.specs.Statistics.{AreAllowed, AreValuesOf, Common, IsLawfulStatistics, IsValueOf, Statistics, bound_at, bound_number_at, common_at, is_below, is_bound_refused, is_common_refused, is_equal, is_refused, is_share_refused, no_common, pair_of, shares}
 use Rattle.catalog.specs.declared.limits.TheConstants.{MOST_BOUNDS, MOST_COMMON, WHOLE_SHARE}
 
 -- the places of a common value, of its share and of a bound
@@ -58,6 +58,12 @@ found-before common k n a b d at bt lt within e =
     let sought = bt ∙ get_or_default common k b no_common within in
     let here = ap (λ (p : Common). is_equal p.0 (get_or common k no_common).0) (sym at) ∙ ap (λ (p : Common). is_equal a.0 p.0) (sym sought) ∙ e in
     sym (any-by (λ (p : Common). is_equal p.0 (get_or common k no_common).0) common k n d _ refl lt (omega (arith, lt, within)) here)
+
+-- two common values are of one type
+pub both-typed : (common : List Common) → ((t : SqlType) × All (λ (p : Common). IsValueOf t p.0) common) → (k n : ℕ) (a d : Common) → a ≡ get_or common k a → n < k → k < length common →
+    (t : SqlType) × IsValueOf t (get_or common n d).0 × IsValueOf t a.0
+both-typed common (t, each) k n a d is lt within =
+    (t, each n d (omega (arith, lt, within)), subst (λ (p : Common). IsValueOf t p.0) (sym is) (each k a within))
 
 -- one more place that is not refused
 pub clean-more : (s : Statistics) (place : ℕ) → ((n : ℕ) → n < place → is_refused s n ≡ false) → is_refused s place ≡ false → (n : ℕ) → n < place + 1 → is_refused s n ≡ false

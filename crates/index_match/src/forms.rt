@@ -23,6 +23,11 @@ fn type_of(f: Family) -> SqlType
         Family::Integer | Family::IntAbs => SqlType::Int8,
         Family::Text => SqlType::Text,
         Family::Bool => SqlType::Bool,
+        Family::Uuid => SqlType::Uuid,
+        Family::Date => SqlType::Date,
+        Family::Timestamp => SqlType::Timestamp,
+        Family::TimestampTz => SqlType::TimestampTz,
+        Family::Numeric(scale) => SqlType::Numeric { digits: 18, scale },
     }
 }
 

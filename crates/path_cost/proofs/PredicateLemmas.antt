@@ -12,7 +12,7 @@ use Rattle.pg_expr.specs.declared.operand.Operand.TheVariants.{Col, Lit}
 use Rattle.pg_expr.specs.Cond.{Cond, compare, is_null, is_not_null, bool_col, const, all_of, any_of, negation, Conds, no_conds, cond_and}
 use Rattle.pg_expr.specs.Columns.{each_column, each_column_of, passes_column}
 use Rattle.pg_expr.specs.Truths.{value_of}
-use Rattle.pg_expr.specs.Typed.{AreTyped, IsTyped, some_value}
+use Rattle.pg_expr.specs.Typed.{AreAlike, AreTyped, IsInteger, IsTyped, some_value, type_kind}
 use Rattle.catalog.specs.Contents.{Contents, IsIndex, IsLawful, index_at, no_index, table_at}
 use Rattle.catalog.specs.Indexes.{Index, IsConditionOf, IsPredicateOf, type_at}
 use Rattle.pg_expr.proofs.ColumnLaws.{weaker-each}
@@ -25,12 +25,26 @@ module _ (test : ColRef → Bool) (t u : ColRef → SqlType) (agree : (x : ColRe
   agree-side (Col x) h = ap some_value (agree x h)
   agree-side (Lit v) h = refl
 
+  agree-alike : (l r : Operand) → IsTrue (passes_column test l) → IsTrue (passes_column test r) → AreAlike t l r → AreAlike u l r
+  agree-alike (Col x) (Col y) h k same = ap type_kind (sym (agree x h)) ∙ same ∙ ap type_kind (agree y k)
+  agree-alike (Col x) (Lit v) h k same = tt
+  agree-alike (Lit v) r h k same = tt
+
+  agree-integer : (o : Operand) → IsTrue (passes_column test o) → IsInteger t o → IsInteger u o
+  agree-integer (Col x) h is = ap type_kind (sym (agree x h)) ∙ is
+  agree-integer (Lit v) h is = tt
+
   mutual
     agree-typed : (e : Cond) → IsTrue (each_column test e) → IsTyped t e → IsTyped u e
     agree-typed (compare op l r) h d =
         let sides = and_parts (passes_column test l) (passes_column test r) h in
-        subst (λ a. AreComparable op a (value_of (λ x. some_value (u x)) r)) (agree-side l sides.0)
-        (subst (λ b. AreComparable op (value_of (λ x. some_value (t x)) l) b) (agree-side r sides.1) d)
+        record {
+          comparable =
+              subst (λ a. AreComparable op a (value_of (λ x. some_value (u x)) r)) (agree-side l sides.0)
+              (subst (λ b. AreComparable op (value_of (λ x. some_value (t x)) l) b) (agree-side r sides.1) d.comparable);
+          alike = agree-alike l r sides.0 sides.1 d.alike;
+          integers = λ is. (agree-integer l sides.0 (d.integers is).0, agree-integer r sides.1 (d.integers is).1);
+        }
     agree-typed (is_null x) h d = tt
     agree-typed (is_not_null x) h d = tt
     agree-typed (bool_col x) h d = sym (agree x h) ∙ d

@@ -2,16 +2,17 @@
 use Rattle.std.proofs.Common.{◌≡◌, ℕ, Bool, true, false, cond, nat_eq, ◌||◌, List, refl, sym, subst, ap, ◌∙◌, ◌⊎◌, inl, inr, Option, Some, None, arith}
 use Rattle.std.specs.Prelude.{slice_get, IfSome, option_and_then, ℤ, pos, negsuc}
 use Rattle.std.specs.Cmp.{IsTotalOrder}
+use Rattle.std.specs.declared.cmp.Ordering.{Ordering}
 use Rattle.std.proofs.lemmas.Bool.{eqb-true, ltb-true}
 use Rattle.pg_base.specs.declared.numbers.ColNo.{ColNo}
 use Rattle.pg_value.specs.declared.columns.Column.{Column}
 use Rattle.pg_value.specs.declared.operators.Family.{Family}
-use Rattle.pg_value.specs.declared.operators.Family.TheVariants.{Integer, IntAbs, Text as TextOps, Bool as BoolOps}
+use Rattle.pg_value.specs.declared.operators.Family.TheVariants.{Integer, IntAbs, Text as TextOps, Bool as BoolOps, Uuid as UuidOps, Date as DateOps, Timestamp as TimestampOps, TimestampTz as TimestampTzOps, Numeric as NumericOps}
 use Rattle.pg_value.specs.declared.operators.Op.{Op}
 use Rattle.pg_value.specs.declared.operators.Truth.{Truth}
 use Rattle.pg_value.specs.declared.operators.Truth.TheVariants.{True, False, Unknown}
 use Rattle.pg_value.specs.declared.value.SqlType.{SqlType}
-use Rattle.pg_value.specs.declared.value.SqlType.TheVariants.{Int2, Int4, Int8, Text as TextType, Bool as BoolType}
+use Rattle.pg_value.specs.declared.value.SqlType.TheVariants.{Int2, Int4, Int8, Text as TextType, Bool as BoolType, Uuid as UuidType, Date as DateType, Timestamp as TimestampType, TimestampTz as TimestampTzType, Numeric as NumericType}
 use Rattle.pg_value.specs.declared.value.Value.{Value}
 use Rattle.pg_value.specs.declared.value.Value.TheVariants.{Null, Int, Bool as Flag, Text as String}
 use Rattle.pg_value.specs.Order.{value_order}
@@ -22,7 +23,7 @@ use Rattle.pg_expr.specs.declared.operand.Operand.TheVariants.{Col, Lit}
 use Rattle.pg_expr.specs.Columns.{names_column}
 use Rattle.pg_expr.specs.Cond.{Cond, compare, is_null, is_not_null, bool_col, const, all_of, any_of, negation, Conds}
 use Rattle.pg_expr.specs.Truths.{value_of, truth_of_null, truth_of_flag, truth_at, truth_of_all, truth_of_any}
-use Rattle.pg_value.specs.Types.{IsOfType, in_range, limit}
+use Rattle.pg_value.specs.Types.{IsOfType}
 use Rattle.predicate_proof.specs.Atoms.{SameSide, SameAtom, has_column_number, typed_family, operator_family, IsFamilyValue, CellHolds, TableGives}
 use Rattle.predicate_proof.specs.Derivation.{Implies, each_part, each_arm, arm_by_arm, atom_to_part, part_to_atom, all_to_part, part_to_any, same, not_null, by_table, ImpliesAll, no_part, part_and, ImpliesSome, this_part, later_part, AllImply, no_arm, arm_and, SomeImplies, this_clause, later_clause, EachImpliesSome, no_choice, choice_and}
 use Rattle.predicate_proof.specs.work.Rows.{at_row, FitsColumns}
@@ -100,34 +101,39 @@ value-given Integer Null h = absurd h
 value-given IntAbs Null h = absurd h
 value-given TextOps Null h = absurd h
 value-given BoolOps Null h = absurd h
+value-given UuidOps Null h = absurd h
+value-given DateOps Null h = absurd h
+value-given TimestampOps Null h = absurd h
+value-given TimestampTzOps Null h = absurd h
+value-given (NumericOps scale) Null h = absurd h
 
-chosen : (b : Bool) (g f : Family) → cond b (Some IntAbs) (Some g) ≡ Some f → cond b IntAbs g ≡ f
-chosen true g f e = cc
-chosen false g f e = cc
+-- an operator over a family that orders as the default one of a kind
+chosen : (b : Bool) (kind g f : Family) → value_order kind ≡ value_order g → cond b (Some IntAbs) (Some g) ≡ Some f → value_order (cond b IntAbs kind) ≡ value_order f
+chosen true kind g f alike e = let is : IntAbs ≡ f = cc in ap value_order is
+chosen false kind g f alike e = let is : g ≡ f = cc in alike ∙ ap value_order is
 
--- the family by which an operator compares a value of a type
-family-fits : (t : SqlType) (op : Op) (x : Value) (f : Family) → IsOfType t x → opposite (truth_of_null x) ≡ True → typed_family t op ≡ Some f → comparing_family op x ≡ f
-family-fits t op Null f fits given e = cc
-family-fits Int2 op (Int n) f fits given e = chosen (is_absolute op) Integer f e
-family-fits Int4 op (Int n) f fits given e = chosen (is_absolute op) Integer f e
-family-fits Int8 op (Int n) f fits given e = chosen (is_absolute op) Integer f e
-family-fits TextType op (Int n) f fits given e = absurd (no_number TextType n refl fits)
-family-fits BoolType op (Int n) f fits given e = absurd (no_number BoolType n refl fits)
-family-fits Int2 op (Flag b) f fits given e = absurd fits
-family-fits Int4 op (Flag b) f fits given e = absurd fits
-family-fits Int8 op (Flag b) f fits given e = absurd fits
-family-fits TextType op (Flag b) f fits given e = absurd fits
-family-fits BoolType op (Flag b) f fits given e = chosen (is_absolute op) BoolOps f e
-family-fits Int2 op (String t) f fits given e = absurd fits
-family-fits Int4 op (String t) f fits given e = absurd fits
-family-fits Int8 op (String t) f fits given e = absurd fits
-family-fits TextType op (String t) f fits given e = chosen (is_absolute op) TextOps f e
-family-fits BoolType op (String t) f fits given e = absurd fits
+-- the order by which an operator compares a value of a type
+order-fits : (t : SqlType) (op : Op) (x : Value) (f : Family) → IsOfType t x → opposite (truth_of_null x) ≡ True → typed_family t op ≡ Some f → value_order (comparing_family op x) ≡ value_order f
+order-fits t op Null f fits given e = cc
+order-fits Int2 op (Int n) f fits given e = chosen (is_absolute op) Integer Integer f refl e
+order-fits Int4 op (Int n) f fits given e = chosen (is_absolute op) Integer Integer f refl e
+order-fits Int8 op (Int n) f fits given e = chosen (is_absolute op) Integer Integer f refl e
+order-fits DateType op (Int n) f fits given e = chosen (is_absolute op) Integer DateOps f refl e
+order-fits TimestampType op (Int n) f fits given e = chosen (is_absolute op) Integer TimestampOps f refl e
+order-fits TimestampTzType op (Int n) f fits given e = chosen (is_absolute op) Integer TimestampTzOps f refl e
+order-fits (NumericType digits scale) op (Int n) f fits given e = chosen (is_absolute op) Integer (NumericOps scale) f refl e
+order-fits TextType op (Int n) f fits given e = absurd (no_number TextType n refl fits)
+order-fits BoolType op (Int n) f fits given e = absurd (no_number BoolType n refl fits)
+order-fits UuidType op (Int n) f fits given e = absurd (no_number UuidType n refl fits)
+order-fits BoolType op (Flag b) f fits given e = chosen (is_absolute op) BoolOps BoolOps f refl e
+order-fits TextType op (String t) f fits given e = chosen (is_absolute op) TextOps TextOps f refl e
+order-fits UuidType op (String t) f fits given e = chosen (is_absolute op) TextOps UuidOps f refl e
+order-fits t op x f fits given e = absurd fits
 
--- the family by which an operator compares a value of a column
+-- the order by which an operator compares a value of a column
 column-fits : (column : Option Column) (op : Op) (x : Value) (f : Family) → IfSome column (λ c. IsOfType c.typed x) → opposite (truth_of_null x) ≡ True →
-    option_and_then (λ c. typed_family c.typed op) column ≡ Some f → comparing_family op x ≡ f
-column-fits (Some column) op x f fits given e = family-fits column.typed op x f fits given e
+    option_and_then (λ c. typed_family c.typed op) column ≡ Some f → value_order (comparing_family op x) ≡ value_order f
+column-fits (Some column) op x f fits given e = order-fits column.typed op x f fits given e
 column-fits None op x f fits given e = cc
 
 cell-family : (o : Option Family) (op : Op) (v : Value) (other : Op) (w : Value) → CellHolds o op v other w → (f : Family) × (o ≡ Some f) × CellHolds (Some f) op v other w
@@ -177,15 +183,15 @@ module _ (total : (f : Family) → IsTotalOrder (value_order f)) (columns : List
       let found = cell-family (operator_family columns c op) op v other w holds in
       let f = found.0 in
       let given = left-given op (row c) v h in
-      let of_clause : comparing_family op (row c) ≡ f = column-fits (slice_get columns c.0) op (row c) f (fits c) given found.1 in
+      let of_clause : value_order (comparing_family op (row c)) ≡ value_order f = column-fits (slice_get columns c.0) op (row c) f (fits c) given found.1 in
       let same_family : operator_family columns c other ≡ Some f = subst (λ (n : ColNo). operator_family columns n other ≡ Some f) (sym column) (sym families ∙ found.1) in
-      let of_goal : comparing_family other (row c) ≡ f = column-fits (slice_get columns c.0) other (row c) f (fits c) given same_family in
+      let of_goal : value_order (comparing_family other (row c)) ≡ value_order f = column-fits (slice_get columns c.0) other (row c) f (fits c) given same_family in
       let clause : accepts op (value_order f (row c) v) ≡ true =
-      truth-true _ (ap (λ (g : Family). truth_of (accepts op (value_order g (row c) v))) (sym of_clause) ∙ sym (compared-given op (row c) v given (value-given f v found.2.0)) ∙ h) in
+      truth-true _ (ap (λ (order : Value → Value → Ordering). truth_of (accepts op (order (row c) v))) (sym of_clause) ∙ sym (compared-given op (row c) v given (value-given f v found.2.0)) ∙ h) in
       let goal = cell-sound (value_order f) (total f) (row c) v w op other clause found.2.2 in
       subst (λ (n : ColNo). truth_of_op other (row n) w ≡ True) column
       (compared-given other (row c) w given (value-given f w found.2.1)
-      ∙ ap (λ (g : Family). truth_of (accepts other (value_order g (row c) w))) of_goal
+      ∙ ap (λ (order : Value → Value → Ordering). truth_of (accepts other (order (row c) w))) of_goal
       ∙ ap truth_of goal)
 
   -- by induction on the derivation

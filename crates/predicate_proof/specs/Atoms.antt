@@ -5,7 +5,7 @@ use Rattle.std.specs.declared.cmp.Ordering.{Ordering}
 use Rattle.pg_base.specs.declared.numbers.ColNo.{ColNo}
 use Rattle.pg_value.specs.declared.columns.Column.{Column}
 use Rattle.pg_value.specs.declared.operators.Family.{Family}
-use Rattle.pg_value.specs.declared.operators.Family.TheVariants.{Integer, IntAbs, Text as TextOps, Bool as BoolOps}
+use Rattle.pg_value.specs.declared.operators.Family.TheVariants.{Integer, IntAbs, Text as TextOps, Bool as BoolOps, Uuid as UuidOps, Date as DateOps, Timestamp as TimestampOps, TimestampTz as TimestampTzOps, Numeric as NumericOps}
 use Rattle.pg_value.specs.declared.operators.Op.{Op}
 use Rattle.pg_value.specs.declared.operators.Op.TheVariants.{Lt, Le, Eq, Ge, Gt, Ne, AbsLt, AbsLe, AbsEq, AbsGe, AbsGt}
 use Rattle.pg_value.specs.declared.value.SqlType.{SqlType}
@@ -64,6 +64,11 @@ IsFamilyValue Integer (Int n) = Unit {0}
 IsFamilyValue IntAbs (Int n) = Unit {0}
 IsFamilyValue TextOps (String t) = Unit {0}
 IsFamilyValue BoolOps (Flag b) = Unit {0}
+IsFamilyValue UuidOps (String t) = Unit {0}
+IsFamilyValue DateOps (Int n) = Unit {0}
+IsFamilyValue TimestampOps (Int n) = Unit {0}
+IsFamilyValue TimestampTzOps (Int n) = Unit {0}
+IsFamilyValue (NumericOps scale) (Int n) = Unit {0}
 IsFamilyValue _ _ = ⊥
 
 -- an operator by absolute value stands in the table as the one by value

@@ -74,8 +74,16 @@ fn is_value_of(f: Family, v: &Value) -> bool
     ensures { IsTrue result ↔ IsFamilyValue f v.now }
 {
     match (f, v) {
-        (Family::Integer | Family::IntAbs, Value::Int(_)) => true,
-        (Family::Text, Value::Text(_)) => true,
+        (
+            Family::Integer
+            | Family::IntAbs
+            | Family::Date
+            | Family::Timestamp
+            | Family::TimestampTz
+            | Family::Numeric(_),
+            Value::Int(_),
+        ) => true,
+        (Family::Text | Family::Uuid, Value::Text(_)) => true,
         (Family::Bool, Value::Bool(_)) => true,
         _ => false,
     }

@@ -28,7 +28,6 @@ use Rattle.std.specs.Borrow.{Bor}
 use Rattle.pg_expr.specs.declared.expr.Expr.{Expr}
 use Rattle.pg_expr.specs.work.View as view
 use Rattle.pg_expr.specs.Truths.{truth_at}
-use Rattle.pg_expr.specs.Typed.{some_value}
 use Rattle.pg_expr.proofs.PushedLaws.{IsDefined}
 use Rattle.heap.specs.Stored.{IsRowOf, Values}
 use Rattle.heap.specs.work.Tuples.{padded}
@@ -55,8 +54,7 @@ use Rattle.store.proofs.StoreLemmas.{holds}
 use Rattle.scan_probes.specs.work.Probes.{FitOwn, column_of, compared_with, is_known}
 use Rattle.scan_probes.specs.work.Filters as refs
 use Rattle.scan_probes.specs.work.Values.{Given, value_beside, value_in}
-use Rattle.scan_probes.proofs.LawLemmas.{defined_beside}
-use Rattle.eq_classes.proofs.TypedLemmas.{is_some_value as some_fits}
+use Rattle.scan_probes.proofs.LawLemmas.{defined_beside, defined_sampled}
 use Rattle.scan_probes.proofs.ProbeLemmas.{key_fits}
 use Rattle.scan_exec.specs.work.Scene.{AreUsed, IsNear, IsScene, IsUsed}
 use Rattle.scan_exec.specs.Coming.{fetched_row}
@@ -231,7 +229,7 @@ module _ (c : Contents) (k : Kept) (q : Query) (r : RelNo) (p : RelSet) (outer :
     pub value_fits : IsOfFamily (key_family key) value
     value_fits =
         fits_key r.0 key given (type_in c q.range) e (key_fits key Hash (type_in c q.range (column_of r.0 key.col)) accepts) form_first
-        (defined_at (λ x. some_value (type_in c q.range (column_of r.0 x))) (λ x. some_fits (type_in c q.range (column_of r.0 x))))
+        (defined_sampled (type_in c q.range) r.0 given (given_fits c k q r p outer given at) e used.near.typed)
 
     abbrev es : List IndexEntry
     es = entries_over d rows

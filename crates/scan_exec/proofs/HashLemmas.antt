@@ -6,7 +6,7 @@ use Rattle.std.specs.Ordering.{is_eq, is_gt, nat_cmp, ordering_reverse, ordering
 use Rattle.std.proofs.lemmas.Bool.{and_parts, and_from, lt-ltb, true≢false}
 use Rattle.pg_base.specs.declared.numbers.ColNo.{ColNo}
 use Rattle.pg_value.specs.declared.operators.Family.{Family}
-use Rattle.pg_value.specs.declared.operators.Family.TheVariants.{Integer, IntAbs, Text as TextFamily, Bool as BoolFamily}
+use Rattle.pg_value.specs.declared.operators.Family.TheVariants.{Integer, IntAbs, Text as TextFamily, Bool as BoolFamily, Uuid as UuidFamily, Date as DateFamily, Timestamp as TimestampFamily, TimestampTz as TimestampTzFamily, Numeric as NumericFamily}
 use Rattle.pg_value.specs.declared.operators.Op.{Op}
 use Rattle.pg_value.specs.declared.operators.Op.TheVariants.{Eq}
 use Rattle.pg_value.specs.declared.value.SqlType.{SqlType}
@@ -53,13 +53,18 @@ at_equality op h = absurd (true≢false (sym h))
 
 -- a hash index has `=` alone, which is an operator of a B-tree too
 hash_only : (f : Family) (op : Op) → is_some (number_in f Hash op) ≡ true → op ≡ Eq
-hash_only f op h = at_equality op (implied (is_some (number_in f Hash op)) (nat_eq (op_place op) (op_place Eq)) (every_pair (λ g o. not (is_some (number_in g Hash o)) || nat_eq (op_place o) (op_place Eq)) refl f op) h)
+hash_only f op h = at_equality op (implied (is_some (number_in f Hash op)) (nat_eq (op_place op) (op_place Eq)) (every_pair (λ g o. not (is_some (number_in g Hash o)) || nat_eq (op_place o) (op_place Eq)) (λ scale. refl) f op) h)
 
 ordered_too : (f : Family) → is_some (number_in f Hash Eq) ≡ true → is_some (number_in f Btree Eq) ≡ true
 ordered_too Integer h = refl
 ordered_too IntAbs h = absurd (true≢false (sym h))
 ordered_too TextFamily h = refl
 ordered_too BoolFamily h = refl
+ordered_too UuidFamily h = refl
+ordered_too DateFamily h = refl
+ordered_too TimestampFamily h = refl
+ordered_too TimestampTzFamily h = refl
+ordered_too (NumericFamily scale) h = refl
 
 module _ (r : ℕ) (k : IndexKey) (given : Given) where
   -- a condition of a hash index as one of a B-tree, and what it compares the key with

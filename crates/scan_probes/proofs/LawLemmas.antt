@@ -4,9 +4,7 @@ use Rattle.std.specs.List.{AllByRecursion}
 use Rattle.std.proofs.lemmas.Bool.{and_from, cases_Bool, eqb-true}
 use Rattle.pg_base.specs.declared.numbers.ColNo.{ColNo}
 use Rattle.pg_value.specs.declared.value.SqlType.{SqlType}
-use Rattle.pg_value.specs.declared.value.SqlType.TheVariants.{Int2, Int4, Int8, Text as TextType, Bool as BoolType}
 use Rattle.pg_value.specs.declared.value.Value.{Value}
-use Rattle.pg_value.specs.Types.{IsOfType}
 use Rattle.opfamily.specs.declared.classes.IndexKey.{IndexKey}
 use Rattle.opfamily.specs.declared.classes.Method.TheVariants.{Btree}
 use Rattle.pg_expr.specs.declared.operand.ColRef.{ColRef}
@@ -15,7 +13,7 @@ use Rattle.pg_expr.specs.declared.operand.Operand.TheVariants.{Col, Lit}
 use Rattle.pg_expr.specs.Cond.{Cond, compare, is_null, is_not_null, bool_col, const, all_of, any_of, negation, Conds, no_conds, cond_and}
 use Rattle.pg_expr.specs.Columns.{each_column, each_column_of, passes_column}
 use Rattle.pg_expr.specs.Typed.{IsTyped, some_value}
-use Rattle.pg_expr.proofs.DefinedLaws.{typed-defined}
+use Rattle.pg_expr.proofs.DefinedLaws.{IsLike, like_type}
 use Rattle.pg_expr.proofs.PushedLaws.{IsDefined}
 use Rattle.eq_classes.proofs.ListLemmas.{all_at}
 use Rattle.btree_index.specs.work.Bounds.{AreBounds, meets_all}
@@ -25,7 +23,7 @@ use Rattle.scan_probes.specs.work.Values.{Given, are_true, value_beside}
 use Rattle.scan_probes.specs.work.Probes.{AreOf, FitGiven, FitOwn, IsKeyTyped, column_of, given_value, probes_from}
 use Rattle.scan_probes.proofs.ProbeLemmas.{key_fits}
 use Rattle.scan_probes.proofs.BoundsLemmas.{IsKeySampled, in_conditions, probes_bound, probes_meet}
-use Rattle.eq_classes.proofs.TypedLemmas.{is_some_value as is_some}
+use Rattle.scan_probes.proofs.SampleLemmas.{kinds_defined, like_itself}
 
 abbrev pub any : ColRef → Bool
 any x = true
@@ -50,18 +48,25 @@ mutual
   each_any_of (cond_and e es) = and_from _ _ (each_any e) (each_any_of es)
 
 module _ (type_of : ColRef → SqlType) (r : ℕ) (given : Given) (fit : FitGiven type_of given) where
-  -- values beside the rows given are of their types
-  fits_beside : (own : ColNo → Value) → FitOwn type_of r own → (x : ColRef) → IsOfType (type_of x) (value_beside r own given x)
-  fits_beside own fit_own x = ⊎_elim
+  -- values beside the rows given are of the kinds of their columns' types
+  like_beside : (own : ColNo → Value) → ((c : ColNo) → IsLike (some_value (type_of (column_of r c))) (own c)) → (x : ColRef) → IsLike (some_value (type_of x)) (value_beside r own given x)
+  like_beside own like x = ⊎_elim
       (λ (t : nat_eq x.rel.0 r ≡ true).
       let same : x ≡ column_of r x.col = ap (λ (k : ℕ). column_of k x.col) (eqb-true x.rel.0 r t) in
-      subst (λ (v : Value). IsOfType (type_of x) v) (sym (ap (λ (b : Bool). cond b (own x.col) (given_value given x)) t)) (subst (λ (y : ColRef). IsOfType (type_of y) (own x.col)) (sym same) (fit_own x.col)))
+      subst (IsLike (some_value (type_of x))) (sym (ap (λ (b : Bool). cond b (own x.col) (given_value given x)) t)) (subst (λ (y : ColRef). IsLike (some_value (type_of y)) (own x.col)) (sym same) (like x.col)))
       (λ (f : nat_eq x.rel.0 r ≡ false).
-      subst (λ (v : Value). IsOfType (type_of x) v) (sym (ap (λ (b : Bool). cond b (own x.col) (given_value given x)) f)) (fit x))
+      subst (IsLike (some_value (type_of x))) (sym (ap (λ (b : Bool). cond b (own x.col) (given_value given x)) f)) (like_type (type_of x) (given_value given x) (fit x)))
       (cases_Bool (nat_eq x.rel.0 r))
 
   pub defined_beside : (own : ColNo → Value) → FitOwn type_of r own → (e : Cond) → IsTyped type_of e → IsDefined (value_beside r own given) e
-  defined_beside own fit_own e typed = typed-defined type_of any (value_beside r own given) (λ x h. fits_beside own fit_own x) e typed (each_any e)
+  defined_beside own fit_own e typed =
+      kinds_defined type_of (value_beside r own given) (like_beside own (λ c. like_type (type_of (column_of r c)) (own c) (fit_own c))) e typed
+
+  -- so are they beside some value of each type
+  pub defined_sampled : (e : Cond) → IsTyped type_of e → IsDefined (value_beside r (λ c. some_value (type_of (column_of r c))) given) e
+  defined_sampled e typed =
+      let own : ColNo → Value = λ c. some_value (type_of (column_of r c)) in
+      kinds_defined type_of (value_beside r own given) (like_beside own (λ c. like_itself (own c))) e typed
 
   keys_sampled : (ks : List IndexKey) → AllByRecursion (IsKeyTyped type_of r) ks → AllByRecursion (IsKeySampled r type_of) ks
   keys_sampled [] all = tt
@@ -70,7 +75,7 @@ module _ (type_of : ColRef → SqlType) (r : ℕ) (given : Given) (fit : FitGive
   pub conditions_bound : (ks : List IndexKey) (es : List Cond) → AllByRecursion (IsKeyTyped type_of r) ks → All (IsTyped type_of) es → AreBounds 0 ks (probes_from r 0 ks given es)
   conditions_bound ks es keys typed =
       probes_bound r given type_of es
-      (λ e i. defined_beside (λ c. some_value (type_of (column_of r c))) (λ c. is_some (type_of (column_of r c))) e (all_at (IsTyped type_of) es typed e i)) 0 ks (keys_sampled ks keys)
+      (λ e i. defined_sampled e (all_at (IsTyped type_of) es typed e i)) 0 ks (keys_sampled ks keys)
 
   pub conditions_met : (own : ColNo → Value) → FitOwn type_of r own → (ks : List IndexKey) (vs : List Value) (cs : List Numbered) → AreOf own 0 ks vs → All (IsTyped type_of) (conditions_of cs)
       → meets_all (probes_from r 0 ks given (conditions_of cs)) vs ≡ are_true (value_beside r own given) (conditions_of (bounding Btree r ks cs))

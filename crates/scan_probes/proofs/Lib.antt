@@ -3,7 +3,9 @@ pub mod EntryLemmas
 pub mod ProbeLemmas
 pub mod MeetLemmas
 pub mod BoundsLemmas
+pub mod SampleLemmas
 pub mod LawLemmas
 pub mod WorldLemmas
 pub mod ChosenLemmas
 pub mod PickedLemmas
+pub mod OtherSideLemmas

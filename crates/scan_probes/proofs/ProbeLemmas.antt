@@ -18,7 +18,7 @@ use Rattle.eq_classes.proofs.DefaultLemmas.{class_fits}
 
 -- an operator of a family for B-trees has its commutator there
 pub commutes : (f : Family) (op : Op) → is_some (number_in f Btree op) ≡ true → is_some (number_in f Btree (commutator_of op)) ≡ true
-commutes f op = implied (is_some (number_in f Btree op)) (is_some (number_in f Btree (commutator_of op))) (every_pair (λ g o. not (is_some (number_in g Btree o)) || is_some (number_in g Btree (commutator_of o))) refl f op)
+commutes f op = implied (is_some (number_in f Btree op)) (is_some (number_in f Btree (commutator_of op))) (every_pair (λ g o. not (is_some (number_in g Btree o)) || is_some (number_in g Btree (commutator_of o))) (λ scale. refl) f op)
 
 pub key_fits : (k : IndexKey) (m : Method) (t : SqlType) → accepted k.class m t ≡ true → IsOfFamily (key_family k) (some_value t)
 unfolding key_family

@@ -3,6 +3,7 @@
 ghost use Rattle.std.specs.Prelude.{◌≡◌, ◌<◌, true, IfOk, IfSome, OnOk, IsTrue, length};
 ghost use Rattle.opfamily.specs.declared.classes.Method.TheVariants.{Btree, Hash};
 ghost use Rattle.pg_expr.specs.Truths.{value_of};
+ghost use Rattle.pg_expr.specs.Cond.{compare};
 ghost use Rattle.pg_expr.specs.work.View.{cond};
 ghost use Rattle.index_match.specs.Conditions as forms;
 ghost use Rattle.index_match.specs.work.Conditions as forms_work;
@@ -60,6 +61,26 @@ struct KeyColumn {
     place: u8,
 }
 
+/// A comparison of two sides, one of them a key column, with the column on the left. The error means out of memory.
+fn comparison_probe(
+    alloc: Global,
+    at: &KeyColumn,
+    given: &Given,
+    op: pg_value::Op,
+    a: &Operand,
+    b: &Operand,
+) -> Result<Probe, Memory>
+    requires form { forms.has_key_form Btree at.now.rel.0 at.now.key (compare op a.now b.now) ≡ true }
+    requires known { is_known at.now.rel.0 given.now (compare op a.now b.now) ≡ true }
+    ensures { IfOk result (λ p. p ≡ probe_at at.now given.now (compare op a.now b.now)) }
+{
+    if is_key_side(at.rel, at.key, a) && is_outside(at.rel, b) {
+        bound(alloc, at.place, op, given, b)
+    } else {
+        bound(alloc, at.place, commutator(op), given, a)
+    }
+}
+
 /// A condition on a key column, with the column on the left. The error means out of memory.
 fn probe(alloc: Global, at: &KeyColumn, given: &Given, e: &Expr) -> Result<Probe, Memory>
     requires form { forms.has_key_form Btree at.now.rel.0 at.now.key (cond e.now) ≡ true }
@@ -67,13 +88,7 @@ fn probe(alloc: Global, at: &KeyColumn, given: &Given, e: &Expr) -> Result<Probe
     ensures { IfOk result (λ p. p ≡ probe_at at.now given.now (cond e.now)) }
 {
     match e {
-        Expr::Compare(op, a, b) => {
-            if is_key_side(at.rel, at.key, a) && is_outside(at.rel, b) {
-                bound(alloc, at.place, *op, given, b)
-            } else {
-                bound(alloc, at.place, commutator(*op), given, a)
-            }
-        }
+        Expr::Compare(op, a, b) => comparison_probe(alloc, at, given, *op, a, b),
         Expr::IsNull(_) => Ok(Probe::IsNull(at.place)),
         _ => Ok(Probe::NotNull(at.place)),
     }

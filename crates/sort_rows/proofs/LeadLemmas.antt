@@ -9,7 +9,7 @@ use Rattle.std.proofs.lemmas.Bool.{cases_lt, lt-ltb, le-ltb}
 use Rattle.std.proofs.lemmas.Cmp.{int_cmp_total, int_ranked}
 use Rattle.std.proofs.lemmas.Int.{ints}
 use Rattle.pg_value.specs.declared.operators.Family.{Family}
-use Rattle.pg_value.specs.declared.operators.Family.TheVariants.{Integer, IntAbs, Text, Bool as Flags}
+use Rattle.pg_value.specs.declared.operators.Family.TheVariants.{Integer, IntAbs, Text, Bool as Flags, Uuid, Date, Timestamp, TimestampTz, Numeric}
 use Rattle.pg_value.specs.declared.value.Value.{Value}
 use Rattle.pg_value.specs.declared.value.Value.TheVariants.{Null, Int, Bool as Flag, Text as String}
 use Rattle.pg_value.specs.ColumnOrder.{directed}
@@ -120,11 +120,22 @@ texts_less (suc n) m (x ∷ s) (y ∷ t) lt = ⊎_elim
           absurd (omega (arith, lt, all)))
           (cases_lt y 255)
 
+numbers_less : (v w : Value) → int_cmp (saturate_signed w64 (number v)) (saturate_signed w64 (number w)) ≡ Less → int_cmp (number v) (number w) ≡ Less
+numbers_less v w is = less (number v) (number w) (saturated (number v) (number w) (below _ _ is))
+
+bytes_less : (v w : Value) → int_cmp (pos (text_lead 7 0 (bytes v))) (pos (text_lead 7 0 (bytes w))) ≡ Less → slice_cmp nat_cmp (bytes v) (bytes w) ≡ Less
+bytes_less v w is = texts_less 7 0 (bytes v) (bytes w) (let lt : pos (text_lead 7 0 (bytes v)) <ℤ pos (text_lead 7 0 (bytes w)) = below _ _ is in omega (arith, ints, lt))
+
 family_less : (f : Family) (v w : Value) → int_cmp (family_lead f v) (family_lead f w) ≡ Less → value_order f v w ≡ Less
-family_less Integer v w is = less (number v) (number w) (saturated (number v) (number w) (below _ _ is))
+family_less Integer v w is = numbers_less v w is
 family_less IntAbs v w is = magnitudes (magnitude v) (magnitude w) (saturated (pos (magnitude v)) (pos (magnitude w)) (below _ _ is))
-family_less Text v w is = texts_less 7 0 (bytes v) (bytes w) (let lt : pos (text_lead 7 0 (bytes v)) <ℤ pos (text_lead 7 0 (bytes w)) = below _ _ is in omega (arith, ints, lt))
+family_less Text v w is = bytes_less v w is
 family_less Flags v w is = flags (flag v) (flag w) is
+family_less Uuid v w is = bytes_less v w is
+family_less Date v w is = numbers_less v w is
+family_less Timestamp v w is = numbers_less v w is
+family_less TimestampTz v w is = numbers_less v w is
+family_less (Numeric scale) v w is = numbers_less v w is
 
 -- turned round
 turned : (a b : ℤ) → directed_lead true a <ℤ directed_lead true b → b <ℤ a
@@ -152,11 +163,19 @@ flag_fits : (b : Bool) → Fits (flag_lead b)
 flag_fits true = record { low = omega (arith, ints); high = omega (arith, ints) }
 flag_fits false = record { low = omega (arith, ints); high = omega (arith, ints) }
 
+text_fits : (bs : List ℕ) → Fits (pos (text_lead 7 0 bs))
+text_fits bs = record { low = omega (arith, ints); high = omega (arith, ints, lead_fits bs) }
+
 family_fits : (f : Family) (v : Value) → Fits (family_lead f v)
 family_fits Integer v = saturated_fits (number v)
 family_fits IntAbs v = saturated_fits (pos (magnitude v))
-family_fits Text v = record { low = omega (arith, ints); high = omega (arith, ints, lead_fits (bytes v)) }
+family_fits Text v = text_fits (bytes v)
 family_fits Flags v = flag_fits (flag v)
+family_fits Uuid v = text_fits (bytes v)
+family_fits Date v = saturated_fits (number v)
+family_fits Timestamp v = saturated_fits (number v)
+family_fits TimestampTz v = saturated_fits (number v)
+family_fits (Numeric scale) v = saturated_fits (number v)
 
 turned_fits : (z : ℤ) → Fits z → Fits (directed_lead true z)
 turned_fits (pos n) fits = record { low = omega (arith, ints, fits.high); high = omega (arith, ints) }

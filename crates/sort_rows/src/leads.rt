@@ -33,10 +33,14 @@ fn family_lead(f: Family, v: &Value) -> i64
     ensures { result ≡ family_lead f v.now }
 {
     match f {
-        Family::Integer => number(v),
+        Family::Integer
+        | Family::Date
+        | Family::Timestamp
+        | Family::TimestampTz
+        | Family::Numeric(_) => number(v),
         Family::IntAbs => number(v).saturating_abs(),
         Family::Bool => flag(v),
-        Family::Text => text_lead(bytes(v)),
+        Family::Text | Family::Uuid => text_lead(bytes(v)),
     }
 }
 
@@ -60,7 +64,7 @@ fn number(v: &Value) -> i64
     }
 }
 
-/// The bytes of a text, or none.
+/// The bytes of a text or a uuid, or none.
 fn bytes(v: &Value) -> &[u8]
     ensures { result.now ≡ order.bytes v.now }
 {

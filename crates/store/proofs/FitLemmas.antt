@@ -18,7 +18,7 @@ use Rattle.opfamily.specs.declared.classes.IndexKey.{IndexKey}
 use Rattle.opfamily.specs.declared.classes.Method.{Method}
 use Rattle.opfamily.specs.declared.classes.Method.TheVariants.{Hash}
 use Rattle.opfamily.specs.declared.classes.OpClass.{OpClass}
-use Rattle.opfamily.specs.declared.classes.OpClass.TheVariants.{Int2Ops, Int4Ops, Int8Ops, TextOps, BoolOps, Int2AbsOps, Int4AbsOps, Int8AbsOps}
+use Rattle.opfamily.specs.declared.classes.OpClass.TheVariants.{Int2Ops, Int4Ops, Int8Ops, TextOps, BoolOps, Int2AbsOps, Int4AbsOps, Int8AbsOps, UuidOps, DateOps, TimestampOps, TimestampTzOps, NumericOps}
 use Rattle.pg_expr.specs.declared.operand.ColRef.{ColRef}
 use Rattle.std.specs.Option.{option_map}
 use Rattle.pg_expr.specs.declared.expr.Expr.{Expr}
@@ -76,6 +76,11 @@ class-hashes t Int4Ops h = refl
 class-hashes t Int8Ops h = refl
 class-hashes t TextOps h = refl
 class-hashes t BoolOps h = refl
+class-hashes t UuidOps h = refl
+class-hashes t DateOps h = refl
+class-hashes t TimestampOps h = refl
+class-hashes t TimestampTzOps h = refl
+class-hashes t (NumericOps scale) h = refl
 class-hashes t Int2AbsOps h = absurd (false≢true h)
 class-hashes t Int4AbsOps h = absurd (false≢true h)
 class-hashes t Int8AbsOps h = absurd (false≢true h)

@@ -3,7 +3,7 @@
 use Rattle.std.specs.Prelude.{ℕ, zero, suc, ◌+◌, ◌*◌, ◌-◌, ◌^◌, min, nat_lt, cond, Bool, true, false, List, [], ◌∷◌, ℤ, pos, negsuc}
 use Rattle.std.specs.Int.{w64, saturate_signed}
 use Rattle.pg_value.specs.declared.operators.Family.{Family}
-use Rattle.pg_value.specs.declared.operators.Family.TheVariants.{Integer, IntAbs, Text, Bool as Flags}
+use Rattle.pg_value.specs.declared.operators.Family.TheVariants.{Integer, IntAbs, Text, Bool as Flags, Uuid, Date, Timestamp, TimestampTz, Numeric}
 use Rattle.pg_value.specs.declared.value.Value.{Value}
 use Rattle.pg_value.specs.declared.value.Value.TheVariants.{Null}
 use Rattle.pg_value.specs.Order.{bytes, flag, magnitude, number}
@@ -36,12 +36,17 @@ unfoldable pub text_lead : ℕ → ℕ → List ℕ → ℕ
 text_lead zero m bs = m
 text_lead (suc n) m bs = text_lead n (m * 256 + leading bs) (later bs)
 
--- the value's own number, or the nearest of 64 bits; of a text the first seven bytes
+-- the value's own number, or the nearest of 64 bits; of a text or a uuid the first seven bytes
 abbrev pub family_lead : Family → Value → ℤ
 family_lead Integer v = saturate_signed w64 (number v)
 family_lead IntAbs v = saturate_signed w64 (pos (magnitude v))
 family_lead Text v = pos (text_lead 7 0 (bytes v))
 family_lead Flags v = flag_lead (flag v)
+family_lead Uuid v = pos (text_lead 7 0 (bytes v))
+family_lead Date v = saturate_signed w64 (number v)
+family_lead Timestamp v = saturate_signed w64 (number v)
+family_lead TimestampTz v = saturate_signed w64 (number v)
+family_lead (Numeric scale) v = saturate_signed w64 (number v)
 
 -- turned round where descending
 abbrev pub directed_lead : Bool → ℤ → ℤ

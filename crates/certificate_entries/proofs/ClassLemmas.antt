@@ -1,31 +1,25 @@
 -- The class of a column, in the family of absolute values or in another, is one.
-use Rattle.std.proofs.Common.{◌≡◌, ◌<◌, ◌+◌, ℕ, zero, suc, Bool, true, false, cond, List, [], ◌∷◌, length, refl, sym, ap, ◌∙◌, subst, arith}
+use Rattle.std.proofs.Common.{◌≡◌, ◌<◌, ◌+◌, ℕ, zero, suc, Bool, true, false, not, cond, List, [], ◌∷◌, length, refl, sym, ap, ◌∙◌, subst, arith}
 use Rattle.std.specs.Prelude.{Option, Some, None}
 use Rattle.std.specs.List.{position_from}
-use Rattle.std.proofs.lemmas.Bool.{and_from, and_parts, true≢false}
+use Rattle.std.proofs.lemmas.Bool.{and_from, and_parts, not-true, true≢false}
 use Rattle.std.proofs.lemmas.Option.{same_Some, none-some}
 use Rattle.pg_value.specs.declared.operators.Family.{Family}
-use Rattle.pg_value.specs.declared.operators.Family.TheVariants as families
-use Rattle.pg_value.specs.declared.value.SqlType.{SqlType}
-use Rattle.pg_value.specs.declared.value.SqlType.TheVariants.{Int2, Int4, Int8, Text as TextType, Bool as BoolType}
-use Rattle.pg_value.specs.work.Order.{IsOfFamily}
-use Rattle.pg_value.specs.Types.{IsOfType}
 use Rattle.pg_expr.specs.declared.operand.ColRef.{ColRef}
-use Rattle.pg_expr.specs.Typed.{some_value}
-use Rattle.opfamily.specs.Answers.{default_family_of}
+use Rattle.opfamily.specs.Answers.{is_family, takes}
 use Rattle.catalog.specs.Contents.{Contents}
 use Rattle.catalog.specs.Range.{type_in}
-use Rattle.eq_classes.specs.Classes.{Class, class_number, has_member, in_family, is_family, is_in}
+use Rattle.eq_classes.specs.Classes.{Class, class_number, has_member, in_family, is_abs, is_in, is_plain, plain_class}
 use Rattle.eq_classes.specs.Listing.{blank, class_at}
+use Rattle.eq_classes.proofs.DefaultLemmas.{one_family}
 use Rattle.eq_classes.proofs.EqualLemmas.{family_is, family_self}
 use Rattle.eq_classes.proofs.ListLemmas.{in_at}
-use Rattle.eq_classes.proofs.SoundLemmas.{class_sound, member_in}
+use Rattle.eq_classes.proofs.SoundLemmas.{member_in, member_takes}
 use Rattle.eq_classes.proofs.WrittenLemmas.{in_typed}
 use Rattle.plan_laws.proofs.PartLemmas.{apart_at}
 use Rattle.sql_query.specs.Queries.{Query}
 use Rattle.sql_query.specs.WellBound.{IsWellBound, given_with}
-use Rattle.certificate_entries.specs.work.Keys.{IsClassIn, IsClassOf, is_abs}
-use Rattle.eq_classes.proofs.TypedLemmas.{is_some_value as sample-fits}
+use Rattle.certificate_entries.specs.work.Keys.{IsClassIn, IsClassOf}
 
 -- the first class that passes a test
 found-at : (p : Class → Bool) (i : ℕ) (cs : List Class) (n : ℕ) → position_from p i cs ≡ Some n → (k : ℕ) × (n ≡ i + k) × (k < length cs) × (p (class_at cs k) ≡ true)
@@ -59,70 +53,29 @@ is-in k x f member family = and_from (is_family k.family f) (has_member k x) (su
 pub class-none : (q : Query) (x : ColRef) (f : Family) → class_number q.classes.classes (in_family x f) ≡ None → (n : ℕ) → ¬ IsClassIn q x f n
 class-none q x f h n is = none-at (λ k. is_in k (in_family x f)) 0 q.classes.classes h n is.class (is-in (class_at q.classes.classes n) x f is.member is.family)
 
-abs-is : (f : Family) → is_abs f ≡ true → f ≡ families.IntAbs
-abs-is families.Integer e = absurd (true≢false (sym e))
-abs-is families.IntAbs e = refl
-abs-is families.Text e = absurd (true≢false (sym e))
-abs-is families.Bool e = absurd (true≢false (sym e))
+-- and what a look-up among those of other families than that of absolute values gives
+pub plain-found : (q : Query) (x : ColRef) (n : ℕ) → plain_class q.classes.classes x ≡ Some n → IsClassOf q x false n
+plain-found q x n h =
+    let at = found-at (is_plain x) 0 q.classes.classes n h in
+    let same : at.0 ≡ n = omega (arith, at.1) in
+    let passes : is_plain x (class_at q.classes.classes n) ≡ true = subst (λ (k : ℕ). is_plain x (class_at q.classes.classes k) ≡ true) same at.3 in
+    let parts = and_parts (not (is_abs (class_at q.classes.classes n).family)) (has_member (class_at q.classes.classes n) x) passes in
+    record { class = omega (arith, at.1, at.2); member = parts.1; family = not-true (is_abs (class_at q.classes.classes n).family) parts.0 }
 
--- a family but that of absolute values is the default one of the types that it orders
-plain-of : (t : SqlType) (f : Family) → IsOfFamily f (some_value t) → is_abs f ≡ false → default_family_of t ≡ Some f
-plain-of Int2 families.Integer h other = refl
-plain-of Int4 families.Integer h other = refl
-plain-of Int8 families.Integer h other = refl
-plain-of TextType families.Integer h other = absurd h
-plain-of BoolType families.Integer h other = absurd h
-plain-of t families.IntAbs h other = absurd (true≢false other)
-plain-of Int2 families.Text h other = absurd h
-plain-of Int4 families.Text h other = absurd h
-plain-of Int8 families.Text h other = absurd h
-plain-of TextType families.Text h other = refl
-plain-of BoolType families.Text h other = absurd h
-plain-of Int2 families.Bool h other = absurd h
-plain-of Int4 families.Bool h other = absurd h
-plain-of Int8 families.Bool h other = absurd h
-plain-of TextType families.Bool h other = absurd h
-plain-of BoolType families.Bool h other = refl
-
-same-family : (f g : Family) (o : Option Family) → o ≡ Some f → o ≡ Some g → f ≡ g
-same-family f g o e h = cc
-
--- a class of a column in a family but that of absolute values, where the class's is one
-pub of-family : (q : Query) (x : ColRef) (abs : Bool) (f : Family) (n : ℕ) → is_abs f ≡ abs → IsClassIn q x f n → IsClassOf q x abs n
-of-family q x abs f n is h = record { class = h.class; member = h.member; family = ap is_abs h.family ∙ is }
-
-pub in-abs : (q : Query) (x : ColRef) (n : ℕ) → IsClassOf q x true n → IsClassIn q x families.IntAbs n
-in-abs q x n h = record { class = h.class; member = h.member; family = abs-is (class_at q.classes.classes n).family h.family }
-
--- a class is in one of the three other families
-pub in-plain : (q : Query) (x : ColRef) (n : ℕ) → IsClassOf q x false n → ¬ IsClassIn q x families.Integer n → ¬ IsClassIn q x families.Text n → ¬ IsClassIn q x families.Bool n → ⊥
-in-plain q x n h a b d = by (class_at q.classes.classes n).family refl where
-  of : (f : Family) → (class_at q.classes.classes n).family ≡ f → IsClassIn q x f n
-  of f e = record { class = h.class; member = h.member; family = e }
-
-  by : (f : Family) → (class_at q.classes.classes n).family ≡ f → ⊥
-  by families.Integer e = a (of families.Integer e)
-  by families.IntAbs e = true≢false (sym (ap is_abs e) ∙ h.family)
-  by families.Text e = b (of families.Text e)
-  by families.Bool e = d (of families.Bool e)
+pub plain-none : (q : Query) (x : ColRef) → plain_class q.classes.classes x ≡ None → (n : ℕ) → ¬ IsClassOf q x false n
+plain-none q x h n is =
+    none-at (is_plain x) 0 q.classes.classes h n is.class
+    (and_from (not (is_abs (class_at q.classes.classes n).family)) (has_member (class_at q.classes.classes n) x) (ap not is.family) is.member)
 
 module _ (c : Contents) (q : Query) (bound : IsWellBound c q) where
-  fits-family : (x : ColRef) (n : ℕ) → n < length q.classes.classes → has_member (class_at q.classes.classes n) x ≡ true → IsOfFamily (class_at q.classes.classes n).family (some_value (type_in c q.range x))
-  fits-family x n lt member =
+  takes-type : (x : ColRef) (n : ℕ) → n < length q.classes.classes → has_member (class_at q.classes.classes n) x ≡ true → takes (class_at q.classes.classes n).family (type_in c q.range x) ≡ true
+  takes-type x n lt member =
       let k = class_at q.classes.classes n in
-      let g = given_with c q bound.items in
-      let sound = class_sound g (λ y. some_value (type_in c q.range y)) (in_typed (type_in c q.range) q.where_all bound.typed) (λ y. sample-fits (type_in c q.range y)) q.classes.classes bound.classes.classes k (in_at q.classes.classes n blank lt) in
-      sound.fits x (member_in k x member)
+      member_takes (given_with c q bound.items) (in_typed (type_in c q.range) q.where_all bound.typed) q.classes.classes bound.classes.classes k (in_at q.classes.classes n blank lt) x (member_in k x member)
 
   pub one-class : (x : ColRef) (abs : Bool) (m n : ℕ) → IsClassOf q x abs m → IsClassOf q x abs n → m ≡ n
   one-class x abs m n a b =
       let f = (class_at q.classes.classes m).family in
       let g = (class_at q.classes.classes n).family in
-      let same : f ≡ g = by abs a.family b.family in
+      let same : f ≡ g = one_family (type_in c q.range x) f g (takes-type x m a.class a.member) (takes-type x n b.class b.member) (a.family ∙ sym b.family) in
       apart_at (given_with c q bound.items) q.classes bound.classes (in_family x g) m n a.class b.class (is-in (class_at q.classes.classes m) x g a.member same) (is-in (class_at q.classes.classes n) x g b.member refl)
-    where
-      by : (t : Bool) → is_abs (class_at q.classes.classes m).family ≡ t → is_abs (class_at q.classes.classes n).family ≡ t → (class_at q.classes.classes m).family ≡ (class_at q.classes.classes n).family
-      by true e h = abs-is (class_at q.classes.classes m).family e ∙ sym (abs-is (class_at q.classes.classes n).family h)
-      by false e h = same-family (class_at q.classes.classes m).family (class_at q.classes.classes n).family (default_family_of (type_in c q.range x))
-          (plain-of (type_in c q.range x) (class_at q.classes.classes m).family (fits-family x m a.class a.member) e)
-          (plain-of (type_in c q.range x) (class_at q.classes.classes n).family (fits-family x n b.class b.member) h)

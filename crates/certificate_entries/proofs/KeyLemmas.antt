@@ -12,7 +12,7 @@ use Rattle.pg_value.specs.declared.operators.Family.TheVariants as families
 use Rattle.pg_expr.specs.declared.operand.ColRef.{ColRef}
 use Rattle.catalog.specs.Contents.{Contents, IsLawful, IsTable, name_at, no_table}
 use Rattle.catalog.specs.Range.{Range, aliases, relation_at, table_of}
-use Rattle.eq_classes.specs.Classes.{Class, has_member}
+use Rattle.eq_classes.specs.Classes.{Class, has_member, is_abs}
 use Rattle.eq_classes.specs.Clauses.{Set, ClassTable, first_in}
 use Rattle.eq_classes.specs.Listing.{blank, class_at}
 use Rattle.eq_classes.specs.declared.classes.ClassNo.{ClassNo}
@@ -23,7 +23,7 @@ use Rattle.certificate_text.specs.work.Words.{stops}
 use Rattle.certificate_text.specs.sort_rows_ColumnLemmas.{member_is}
 use Rattle.sql_query.specs.Queries.{Query, width}
 use Rattle.sql_query.specs.WellBound.{IsColumnOf, IsWellBound}
-use Rattle.certificate_entries.specs.work.Keys.{AreWords, HasKeyText, IsClassOf, IsNamed, ends_key, family_if, is_abs}
+use Rattle.certificate_entries.specs.work.Keys.{AreWords, HasKeyText, IsClassOf, IsNamed, ends_key, family_if}
 use Rattle.certificate_entries.specs.declared.line_keys.KeyWords.{KeyWords}
 use Rattle.certificate_entries.proofs.NameLemmas.{one-place}
 use Rattle.pg_base.proofs.NameLemmas.{name-word}
@@ -56,10 +56,8 @@ module _ (c : Contents) (q : Query) (bound : IsWellBound c q) where
       name-word (name_at c (table_of q.range x) x.col) (table.names x.col.0 [] (omega (arith, wide, column)))
 
   family-is : (f : Family) → family_text f ≡ family_if (is_abs f)
-  family-is families.Integer = refl
   family-is families.IntAbs = refl
-  family-is families.Text = refl
-  family-is families.Bool = refl
+  family-is f = refl
 
   ends-direction : (a b : Bool) (rest : List ℕ) → ends_key rest ≡ true → ends_key (direction_text a b ++ rest) ≡ true
   ends-direction true true rest h = refl

@@ -52,20 +52,12 @@ fn class_in(q: &Prepared, x: ColRef, f: Family) -> Option<ClassNo>
     classes_of(q).class_of(x, f)
 }
 
-/// The class of a column in a family but that of absolute values.
+/// The class of a column in the family of its type.
 fn plain_class(q: &Prepared, x: ColRef) -> Option<ClassNo>
     ensures found { IfSome result (λ n. IsClassOf q.now x false n.0) }
     ensures none { IfNone result ((n : ℕ) → ¬ IsClassOf q.now x false n) }
 {
-    let first = class_in(q, x, Family::Integer);
-    if first.is_some() {
-        return first;
-    }
-    let next = class_in(q, x, Family::Text);
-    if next.is_some() {
-        return next;
-    }
-    class_in(q, x, Family::Bool)
+    classes_of(q).plain_class_of(x)
 }
 
 /// The class of a column, in the family of absolute values or in another.

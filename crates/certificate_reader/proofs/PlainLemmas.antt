@@ -96,10 +96,8 @@ backward-line true w h = h
 backward-line false w h = h
 
 family-line : (f : Family) (w : List ℕ) → is_line w ≡ true → is_line (family_text f ++ w) ≡ true
-family-line families.Integer w h = h
 family-line families.IntAbs w h = h
-family-line families.Text w h = h
-family-line families.Bool w h = h
+family-line f w h = h
 
 direction-line : (a b : Bool) → is_line (direction_text a b) ≡ true
 direction-line true true = refl

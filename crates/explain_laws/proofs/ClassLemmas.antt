@@ -2,8 +2,7 @@
 use Rattle.std.proofs.Common.{◌≡◌, ◌<◌, ◌==◌, ◌&&◌, ℕ, Bool, true, false, not, cond, List, [], ◌∷◌, ◌++◌, codes, get_or, drop, length, map, refl, sym, ◌∙◌, ap, ap₂, subst, append_assoc, inl, inr, arith}
 use Rattle.std.specs.Prelude.{Option, None, Some, Contains, filter, filter_map, nat_eq}
 use Rattle.std.specs.List.{AllByRecursion}
-use Rattle.std.specs.Option.{option_or}
-use Rattle.std.proofs.lemmas.Bool.{and_from, true≢false, lt-ltb}
+use Rattle.std.proofs.lemmas.Bool.{and_from, lt-ltb}
 use Rattle.std.proofs.lemmas.List.{append_cancel_left, get_or_default}
 use Rattle.pg_base.specs.Names.{IsName}
 use Rattle.pg_base.specs.declared.numbers.ColNo.{ColNo}
@@ -11,18 +10,18 @@ use Rattle.pg_base.specs.declared.numbers.RelNo.{RelNo}
 use Rattle.pg_value.specs.declared.operators.Family.{Family}
 use Rattle.pg_value.specs.declared.operators.Family.TheVariants as families
 use Rattle.pg_value.specs.declared.value.SqlType.{SqlType}
-use Rattle.pg_value.specs.work.Order.{IsOfFamily}
 use Rattle.pg_expr.specs.declared.operand.ColRef.{ColRef}
-use Rattle.pg_expr.specs.Typed.{some_value}
 use Rattle.catalog.specs.Contents.{Contents, IsColumn, IsLawful, name_at}
 use Rattle.catalog.specs.Range.{relation_at, table_of, type_in}
 use Rattle.eq_classes.specs.declared.order.OrderItem.{OrderItem}
-use Rattle.eq_classes.specs.Classes.{Class, has_member, in_family, is_family}
+use Rattle.catalog.specs.opfamily_Answers.{is_family, takes}
+use Rattle.eq_classes.specs.Classes.{Class, has_member, in_family, is_abs}
 use Rattle.eq_classes.specs.Clauses.{Set, ClassTable, first_in}
 use Rattle.eq_classes.specs.Listing.{blank, class_at}
 use Rattle.eq_classes.proofs.EqualLemmas.{family_self}
 use Rattle.eq_classes.proofs.ListLemmas.{IsIn, all_at, any_from, found_in, in_filter_map, in_from_contains}
-use Rattle.eq_classes.proofs.SoundLemmas.{class_sound, in_member, member_in}
+use Rattle.eq_classes.proofs.PlainLemmas.{plain_class_default}
+use Rattle.eq_classes.proofs.SoundLemmas.{in_member, member_in, member_takes}
 use Rattle.eq_classes.proofs.WrittenLemmas.{in_typed}
 use Rattle.plan_laws.proofs.PartLemmas.{apart_at}
 use Rattle.sql_query.specs.Queries.{Query, all_of_query, width}
@@ -30,35 +29,12 @@ use Rattle.sql_query.specs.WellBound.{IsColumnOf, IsWellBound, given_with}
 use Rattle.pathkeys.specs.Keys.{Keys, class_of, is_constant, once, order_class, order_keys}
 use Rattle.plan_laws.specs.sort_rows_ColumnLemmas.{member_is}
 use Rattle.plan_laws.proofs.IndexOrderLemmas.{class_found}
-use Rattle.eq_classes.proofs.DefaultLemmas.{same_family}
-use Rattle.eq_classes.proofs.DefaultLemmas.{default_of}
-use Rattle.eq_classes.proofs.TypedLemmas.{is_some_value as sample_fits}
+use Rattle.eq_classes.proofs.DefaultLemmas.{one_family}
 use Rattle.plan_laws.proofs.KeyLemmas.{find_more}
 use Rattle.explain.specs.Texts.{column_text, direction_text, family_text, key_text, keys_text, with_commas, member_text}
 use Rattle.explain_laws.proofs.NameLemmas.{alias-name, alias-same, column-name, column-same, relation-table}
 use Rattle.explain_laws.proofs.SplitLemmas.{split, stops}
 use Rattle.pg_base.proofs.NameLemmas.{name-word}
-
-abbrev pub is_abs : Family → Bool
-is_abs families.IntAbs = true
-is_abs _ = false
-
-abs-is : (f : Family) → is_abs f ≡ true → f ≡ families.IntAbs
-abs-is families.Integer h = absurd (true≢false (sym h))
-abs-is families.IntAbs h = refl
-abs-is families.Text h = absurd (true≢false (sym h))
-abs-is families.Bool h = absurd (true≢false (sym h))
-
-not-abs : (f : Family) → is_abs f ≡ false → f ≡ families.IntAbs → ⊥
-not-abs f h e = true≢false (sym (ap is_abs e) ∙ h)
-
--- a type has one family beside that of absolute values
-one-family : (t : SqlType) (f g : Family) → IsOfFamily f (some_value t) → IsOfFamily g (some_value t) → is_abs f ≡ is_abs g → f ≡ g
-one-family t f g hf hg e = by (is_abs f) refl
-  where
-    by : (b : Bool) → is_abs f ≡ b → f ≡ g
-    by true p = abs-is f p ∙ sym (abs-is g (sym e ∙ p))
-    by false p = same_family f g (default_of t f hf (not-abs f p)) (default_of t g hg (not-abs g (sym e ∙ p)))
 
 -- what stands behind the column of a key
 abbrev pub tail_text : Class → List ℕ
@@ -71,10 +47,8 @@ stops-direction false true s h = refl
 stops-direction false false s h = h
 
 stops-tail : (f : Family) (d n : Bool) (s : List ℕ) → stops s ≡ true → stops ((family_text f ++ direction_text d n) ++ s) ≡ true
-stops-tail families.Integer d n s h = stops-direction d n s h
 stops-tail families.IntAbs d n s h = refl
-stops-tail families.Text d n s h = stops-direction d n s h
-stops-tail families.Bool d n s h = stops-direction d n s h
+stops-tail f d n s h = stops-direction d n s h
 
 -- a text begins as the family of a key does: with a space before `i`
 abbrev pub begins_family : List ℕ → Bool
@@ -87,10 +61,8 @@ direction-family false true s h = refl
 direction-family false false s h = h
 
 tail-family : (f : Family) (d n : Bool) (s : List ℕ) → begins_family s ≡ false → begins_family ((family_text f ++ direction_text d n) ++ s) ≡ is_abs f
-tail-family families.Integer d n s h = direction-family d n s h
 tail-family families.IntAbs d n s h = refl
-tail-family families.Text d n s h = direction-family d n s h
-tail-family families.Bool d n s h = direction-family d n s h
+tail-family f d n s h = direction-family d n s h
 
 -- what may stand behind a key: a text that goes on no name and begins no family, as a comma or two spaces
 pub record IsNext (s : List ℕ) : Type 0 where
@@ -113,16 +85,15 @@ module _ (c : Contents) (q : Query) (lawful : IsLawful c) (bound : IsWellBound c
   class-in : (n : ℕ) → n < length q.classes.classes → IsIn (class_at q.classes.classes n) q.classes.classes
   class-in n lt = in_from_contains q.classes.classes (class_at q.classes.classes n) (n, lt, get_or_default q.classes.classes n (class_at q.classes.classes n) blank lt)
 
-  member-fits : (n : ℕ) (x : ColRef) → n < length q.classes.classes → IsIn x (class_at q.classes.classes n).members → IsOfFamily (class_at q.classes.classes n).family (some_value (type_of x))
-  member-fits n x lt i =
-      (class_sound (given_with c q bound.items) (λ y. some_value (type_of y)) (in_typed type_of q.where_all bound.typed) (λ y. sample_fits (type_of y)) q.classes.classes bound.classes.classes (class_at q.classes.classes n) (class-in n lt)).fits x i
+  member-takes : (n : ℕ) (x : ColRef) → n < length q.classes.classes → IsIn x (class_at q.classes.classes n).members → takes (class_at q.classes.classes n).family (type_of x) ≡ true
+  member-takes n x lt i = member_takes (given_with c q bound.items) (in_typed type_of q.where_all bound.typed) q.classes.classes bound.classes.classes (class_at q.classes.classes n) (class-in n lt) x i
 
   class-same : (n m : ℕ) (x : ColRef) → n < length q.classes.classes → m < length q.classes.classes → IsIn x (class_at q.classes.classes n).members → IsIn x (class_at q.classes.classes m).members →
       is_abs (class_at q.classes.classes n).family ≡ is_abs (class_at q.classes.classes m).family → n ≡ m
   class-same n m x ln lm i j e =
       let k = class_at q.classes.classes n in
       let l = class_at q.classes.classes m in
-      let same = one-family (type_of x) k.family l.family (member-fits n x ln i) (member-fits m x lm j) e in
+      let same = one_family (type_of x) k.family l.family (member-takes n x ln i) (member-takes m x lm j) e in
       apart_at (given_with c q bound.items) q.classes bound.classes (in_family x k.family) n m ln lm
       (and_from (is_family k.family k.family) (has_member k x) (family_self k.family) (in_member k x i))
       (and_from (is_family l.family k.family) (has_member l x) (ap (λ (f : Family). is_family f k.family) (sym same) ∙ family_self k.family) (in_member l x j))
@@ -227,13 +198,9 @@ module _ (c : Contents) (q : Query) (lawful : IsLawful c) (bound : IsWellBound c
       record { low = of.low; member = first.0; first = first.1 }
 
   of-order : (x : ColRef) (n : ℕ) → x.rel.0 < width q → order_class q.classes x ≡ Some n → IsShownKey q.classes (all_of_query q) n
-  of-order x n lt h = by (class_of q.classes x families.Integer) (class_of q.classes x families.Text) (class_of q.classes x families.Bool) refl refl refl h
-    where
-      by : (i t b : Option ℕ) → class_of q.classes x families.Integer ≡ i → class_of q.classes x families.Text ≡ t → class_of q.classes x families.Bool ≡ b → option_or i (option_or t b) ≡ Some n →
-          IsShownKey q.classes (all_of_query q) n
-      by (Some m) t b ei et eb e = of-family x families.Integer n lt (ei ∙ e)
-      by None (Some m) b ei et eb e = of-family x families.Text n lt (et ∙ e)
-      by None None b ei et eb e = of-family x families.Bool n lt (eb ∙ e)
+  of-order x n lt h =
+      let by = plain_class_default (given_with c q bound.items) (in_typed type_of q.where_all bound.typed) q.classes.classes bound.classes.classes x n h in
+      of-family x by.0 n lt by.2
 
   in-filtered : (p : ℕ → Bool) (ns : List ℕ) (n : ℕ) → IsIn n (filter p ns) → IsIn n ns
   in-filtered p [] n h = h

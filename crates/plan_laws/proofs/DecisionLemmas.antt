@@ -7,7 +7,7 @@ use Rattle.std.proofs.lemmas.Slice.Eq.{bytes_eq-Decides}
 use Rattle.pg_base.specs.declared.numbers.ColNo.{ColNo}
 use Rattle.pg_value.specs.declared.columns.Column.{Column}
 use Rattle.pg_value.specs.declared.operators.Family.{Family}
-use Rattle.pg_value.specs.declared.operators.Family.TheVariants.{Integer, IntAbs, Text as TextOps, Bool as BoolOps}
+use Rattle.pg_value.specs.declared.operators.Family.TheVariants.{Integer, IntAbs, Text as TextOps, Bool as BoolOps, Uuid as UuidOps, Date as DateOps, Timestamp as TimestampOps, TimestampTz as TimestampTzOps, Numeric as NumericOps}
 use Rattle.pg_value.specs.declared.operators.Op.{Op}
 use Rattle.pg_value.specs.declared.operators.Op.TheVariants.{Lt, Le, Eq, Ge, Gt, Ne, AbsLt, AbsLe, AbsEq, AbsGe, AbsGt}
 use Rattle.pg_value.specs.declared.operators.Truth.{Truth}
@@ -100,23 +100,6 @@ truth-back True = refl
 truth-back False = refl
 truth-back Unknown = refl
 
-abbrev family-code : Option Family → ℕ
-family-code None = 0
-family-code (Some Integer) = 1
-family-code (Some IntAbs) = 2
-family-code (Some TextOps) = 3
-family-code (Some BoolOps) = 4
-
-abbrev family-of : ℕ → Option Family
-family-of n = get_or (None ∷ Some Integer ∷ Some IntAbs ∷ Some TextOps ∷ Some BoolOps ∷ []) n None
-
-family-back : (x : Option Family) → family-of (family-code x) ≡ x
-family-back None = refl
-family-back (Some Integer) = refl
-family-back (Some IntAbs) = refl
-family-back (Some TextOps) = refl
-family-back (Some BoolOps) = refl
-
 abbrev flag-code : Bool → ℕ
 flag-code true = 0
 flag-code false = 1
@@ -138,6 +121,19 @@ same-values (Flag a) (Flag b) = alike (λ e. ap Flag e) (λ e. cc) (by-code flag
 same-values (String s) (String t) = alike (λ e. ap String e) (λ e. cc) (record { answer = bytes_eq s t; is = bytes_eq-Decides s t })
 same-values _ _ = never (λ e. cc)
 
+same-families : (f g : Option Family) → IsDecided (f ≡ g)
+same-families None None = always refl
+same-families (Some Integer) (Some Integer) = always refl
+same-families (Some IntAbs) (Some IntAbs) = always refl
+same-families (Some TextOps) (Some TextOps) = always refl
+same-families (Some BoolOps) (Some BoolOps) = always refl
+same-families (Some UuidOps) (Some UuidOps) = always refl
+same-families (Some DateOps) (Some DateOps) = always refl
+same-families (Some TimestampOps) (Some TimestampOps) = always refl
+same-families (Some TimestampTzOps) (Some TimestampTzOps) = always refl
+same-families (Some (NumericOps m)) (Some (NumericOps n)) = alike (λ e. ap (λ (s : ℕ). Some (NumericOps s)) e) (λ e. cc) (same-numbers m n)
+same-families _ _ = never (λ e. cc)
+
 same-sides : (a b : Operand) → IsDecided (SameSide a b)
 same-sides (Col c) (Col d) = same-columns c.col d.col
 same-sides (Lit v) (Lit w) = same-values v w
@@ -157,6 +153,11 @@ family-value Integer (Int n) = always tt
 family-value IntAbs (Int n) = always tt
 family-value TextOps (String t) = always tt
 family-value BoolOps (Flag b) = always tt
+family-value UuidOps (String t) = always tt
+family-value DateOps (Int n) = always tt
+family-value TimestampOps (Int n) = always tt
+family-value TimestampTzOps (Int n) = always tt
+family-value (NumericOps scale) (Int n) = always tt
 family-value _ _ = never (λ h. h)
 
 cell-holds : (f : Option Family) (op : Op) (v : Value) (other : Op) (w : Value) → IsDecided (CellHolds f op v other w)
@@ -166,7 +167,7 @@ cell-holds (Some f) op v other w = three (family-value f v) (family-value f w) (
 module _ (columns : List Column) where
   table-gives : (op : Op) (c : ColNo) (v : Value) (other : Op) (d : ColNo) (w : Value) → IsDecided (TableGives columns op c v other d w)
   table-gives op c v other d w =
-      three (same-columns c d) (by-code family-code family-of family-back (operator_family columns c op) (operator_family columns d other)) (cell-holds (operator_family columns c op) op v other w)
+      three (same-columns c d) (same-families (operator_family columns c op) (operator_family columns d other)) (cell-holds (operator_family columns c op) op v other w)
 
   comparison-gives : (c d : Cond) → IsDecided (ComparisonGives columns c d)
   comparison-gives (compare op l r) (is_not_null d) = told (some_column (has_column_number d.col) (compare op l r))

@@ -18,7 +18,8 @@ use Rattle.opfamily.specs.declared.classes.IndexKey.{IndexKey}
 use Rattle.pg_expr.specs.declared.operand.ColRef.{ColRef}
 use Rattle.heap.specs.Stored.{Values}
 use Rattle.eq_classes.specs.Equality.{is_column}
-use Rattle.eq_classes.specs.Classes.{is_family, is_in, in_family, has_member}
+use Rattle.opfamily.specs.Answers.{is_family}
+use Rattle.eq_classes.specs.Classes.{is_in, in_family, has_member}
 use Rattle.eq_classes.specs.Clauses.{one, ClassTable, first_in}
 use Rattle.eq_classes.specs.work.Holding.{HasClass}
 use Rattle.eq_classes.specs.Listing.{blank, class_at}

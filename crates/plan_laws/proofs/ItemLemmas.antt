@@ -1,29 +1,24 @@
 -- The class of an ORDER BY item, and how the item orders tuples beside it.
-use Rattle.std.proofs.Common.{◌≡◌, Equal, ℕ, ◌+◌, ◌<◌, Bool, true, false, cond, ◌||◌, List, [], ◌∷◌, ◌++◌, length, inl, refl, sym, ap, ap₂, ◌∙◌, subst, ⊎_elim}
+use Rattle.std.proofs.Common.{◌≡◌, Equal, ℕ, ◌+◌, ◌<◌, Bool, true, false, cond, ◌||◌, List, [], ◌∷◌, ◌++◌, length, inl, refl, sym, ap, ◌∙◌, subst, ⊎_elim}
 use Rattle.std.specs.Prelude.{Option, None, Some, IsTrue, find, filter_map, option_map, Contains}
 use Rattle.std.specs.List.{AllByRecursion, list_any, position_from}
-use Rattle.std.specs.Option.{option_or}
 use Rattle.std.proofs.lemmas.Bool.{cases_Bool, and_from, true≢false, lt-ltb}
 use Rattle.pg_value.specs.declared.operators.Family.{Family}
-use Rattle.pg_value.specs.declared.operators.Family.TheVariants as families
 use Rattle.pg_value.specs.declared.value.SqlType.{SqlType}
-use Rattle.pg_value.specs.declared.value.SqlType.TheVariants.{Int2, Int4, Int8, Text as TextType, Bool as BoolType}
 use Rattle.pg_value.specs.ColumnOrder.{column_order}
-use Rattle.pg_value.specs.work.Order.{IsOfFamily}
-use Rattle.pg_value.specs.Types.{IsOfType}
-use Rattle.opfamily.specs.Answers.{default_family_of}
+use Rattle.opfamily.specs.Answers.{default_family_of, is_family}
 use Rattle.pg_expr.specs.declared.operand.ColRef.{ColRef}
-use Rattle.pg_expr.specs.Typed.{some_value}
 use Rattle.catalog.specs.Range.{type_in}
 use Rattle.eq_classes.specs.declared.order.OrderItem.{OrderItem}
 use Rattle.eq_classes.specs.Equality.{equality_in}
-use Rattle.eq_classes.specs.Classes.{Class, Mention, is_family, has_member, is_in, in_family, left_of, mentions, ordered_by, orders_by, is_some_and, direction_by, IsClass}
+use Rattle.eq_classes.specs.Classes.{Class, Mention, has_member, is_in, in_family, left_of, mentions, ordered_by, orders_by, is_some_and, direction_by, IsClass}
 use Rattle.eq_classes.specs.Listing.{class_at}
 use Rattle.eq_classes.specs.Parts.{is_all}
 use Rattle.eq_classes.proofs.EqualLemmas.{family_self}
 use Rattle.eq_classes.proofs.HoldLemmas.{in_map}
 use Rattle.eq_classes.proofs.ListLemmas.{IsIn, all_at, any_from, filter_map_in, found_in, found_passes, in_at, in_from_contains, in_right}
-use Rattle.eq_classes.proofs.SoundLemmas.{class_sound, in_member, member_in}
+use Rattle.eq_classes.proofs.PlainLemmas.{plain_class_default, plain_class_is}
+use Rattle.eq_classes.proofs.SoundLemmas.{in_member, member_in}
 use Rattle.plan_laws.proofs.PartLemmas.{apart_at}
 use Rattle.sql_query.specs.Meaning.{item_order, item_order_in}
 use Rattle.sql_query.specs.Queries.{Query, all_of_query, width}
@@ -38,10 +33,7 @@ use Rattle.plan_laws.proofs.IndexOrderLemmas.{ClassOf, class_found}
 use Rattle.plan_laws.proofs.KeyLemmas.{find_more}
 use Rattle.plan_laws.proofs.OrderedLemmas.{ItemsFollow}
 use Rattle.plan_laws.proofs.TieLemmas.{tie_in_all, members_alike, constants_tie}
-use Rattle.pg_base.proofs.OptionLemmas.{some-or as some_or}
 use Rattle.pg_base.proofs.OptionLemmas.{found-none as found_none}
-use Rattle.eq_classes.proofs.TypedLemmas.{is_some_value as sample_fits}
-use Rattle.eq_classes.proofs.DefaultLemmas.{default_of, no_default_abs, same_family}
 
 -- what is found first where nothing before it passes
 first_passing : {A : Type 0} (p : A → Bool) (before : List A) (x : A) (after : List A) → AllByRecursion (λ y. p y ≡ false) before → p x ≡ true → find p (before ++ x ∷ after) ≡ Some x
@@ -52,33 +44,9 @@ module _ (w : World) (q : Query) (world : IsWorld w) (bound : IsWellBound w.cont
   abbrev type_of : ColRef → SqlType
   type_of = type_in w.contents q.range
 
-  -- the class of a column in a family that is a default one is in the column's default family
-  member_default : (x : ColRef) (f : Family) (n : ℕ) → ClassOf q.classes x f n → (f ≡ families.IntAbs → ⊥) → default_family_of (type_of x) ≡ Some f
-  member_default x f n of other =
-      let c : Class = class_at q.classes.classes n in
-      let sound = class_sound (given_with w.contents q bound.items) (λ y. some_value (type_of y)) (typed w q world bound) (λ y. sample_fits (type_of y)) q.classes.classes bound.classes.classes c (in_from_contains q.classes.classes c of.class) in
-      default_of (type_of x) f (subst (λ (h : Family). IsOfFamily h (some_value (type_of x))) (sym of.family) (sound.fits x (member_in c x of.member))) other
-
-  no_other : (x : ColRef) (f g : Family) → default_family_of (type_of x) ≡ Some f → (g ≡ families.IntAbs → ⊥) → (f ≡ g → ⊥) → class_of q.classes x g ≡ None
-  no_other x f g is other differ = by (class_of q.classes x g) refl
-    where
-      by : (o : Option ℕ) → class_of q.classes x g ≡ o → o ≡ None
-      by None e = refl
-      by (Some n) e = absurd (differ (same_family f g is (member_default x g n (class_found q.classes x g n e) other)))
-
   -- the class by which a column orders is that of its default family
   order_class_is : (x : ColRef) (f : Family) → default_family_of (type_of x) ≡ Some f → order_class q.classes x ≡ class_of q.classes x f
-  order_class_is x families.Integer is =
-      ap (option_or (class_of q.classes x families.Integer))
-      (ap₂ option_or (no_other x families.Integer families.Text is (λ e. cc) (λ e. cc)) (no_other x families.Integer families.Bool is (λ e. cc) (λ e. cc)))
-      ∙ some_or (class_of q.classes x families.Integer)
-  order_class_is x families.IntAbs is = absurd (no_default_abs (type_of x) is)
-  order_class_is x families.Text is =
-      ap₂ option_or (no_other x families.Text families.Integer is (λ e. cc) (λ e. cc))
-      (ap (option_or (class_of q.classes x families.Text)) (no_other x families.Text families.Bool is (λ e. cc) (λ e. cc)))
-      ∙ some_or (class_of q.classes x families.Text)
-  order_class_is x families.Bool is =
-      ap₂ (λ (a b : Option ℕ). option_or a (option_or b (class_of q.classes x families.Bool))) (no_other x families.Bool families.Integer is (λ e. cc) (λ e. cc)) (no_other x families.Bool families.Text is (λ e. cc) (λ e. cc))
+  order_class_is = plain_class_is (given_with w.contents q bound.items) (typed w q world bound) q.classes.classes bound.classes.classes
 
   -- the class of an item, by its column's default family
   pub record ItemClass (x : ColRef) (n : ℕ) : Type 0 where
@@ -87,27 +55,9 @@ module _ (w : World) (q : Query) (world : IsWorld w) (bound : IsWellBound w.cont
     pub class : ClassOf q.classes x in_default n
 
   class_by_default : (x : ColRef) (n : ℕ) → order_class q.classes x ≡ Some n → ItemClass x n
-  class_by_default x n h = by_integer (class_of q.classes x families.Integer) refl h
-    where
-      of_family : (f : Family) → (f ≡ families.IntAbs → ⊥) → (m : ℕ) → class_of q.classes x f ≡ Some m → Some m ≡ Some n → ItemClass x n
-      of_family f other m e g =
-          let of = class_found q.classes x f n (e ∙ g) in
-          record { in_default = f; default = member_default x f n of other; class = of }
-
-      by_bool : (o : Option ℕ) → class_of q.classes x families.Bool ≡ o → o ≡ Some n → ItemClass x n
-      by_bool None e g = absurd (nothing g)
-        where
-          nothing : None ≡ Some n → ⊥
-          nothing d = cc
-      by_bool (Some m) e g = of_family families.Bool (λ d. cc) m e g
-
-      by_text : (o : Option ℕ) → class_of q.classes x families.Text ≡ o → option_or o (class_of q.classes x families.Bool) ≡ Some n → ItemClass x n
-      by_text None e g = by_bool (class_of q.classes x families.Bool) refl g
-      by_text (Some m) e g = of_family families.Text (λ d. cc) m e g
-
-      by_integer : (o : Option ℕ) → class_of q.classes x families.Integer ≡ o → option_or o (option_or (class_of q.classes x families.Text) (class_of q.classes x families.Bool)) ≡ Some n → ItemClass x n
-      by_integer None e g = by_text (class_of q.classes x families.Text) refl g
-      by_integer (Some m) e g = of_family families.Integer (λ d. cc) m e g
+  class_by_default x n h =
+      let by = plain_class_default (given_with w.contents q bound.items) (typed w q world bound) q.classes.classes bound.classes.classes x n h in
+      record { in_default = by.0; default = by.1; class = class_found q.classes x by.0 n by.2 }
 
   -- a class that has an item's column in its default family is the item's
   class_is : (item : OrderItem) (n : ℕ) → n < length q.classes.classes → orders_by type_of (class_at q.classes.classes n) item ≡ true → order_class q.classes item.col ≡ Some n

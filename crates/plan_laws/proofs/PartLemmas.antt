@@ -6,7 +6,8 @@ use Rattle.pg_value.specs.work.Order.{compared}
 use Rattle.pg_expr.specs.declared.operand.ColRef.{ColRef}
 use Rattle.pg_expr.specs.Typed.{IsTyped}
 use Rattle.eq_classes.specs.Equality.{is_column, are_equal}
-use Rattle.eq_classes.specs.Classes.{Premises, Class, is_family, has_member, Mention, is_in, first_mention, IsClass, AreClasses}
+use Rattle.opfamily.specs.Answers.{is_family}
+use Rattle.eq_classes.specs.Classes.{Premises, Class, has_member, Mention, is_in, first_mention, IsClass, AreClasses}
 use Rattle.eq_classes.specs.Clauses.{Set, one, first_in, has_constant, Clause, clause_list, ClassTable}
 use Rattle.eq_classes.specs.Parts.{union, is_all, is_base, is_join, is_param, is_join_param}
 use Rattle.eq_classes.specs.Holding.{IsClassTable, AreApart, IsWithin}

@@ -64,10 +64,8 @@ backward-plain true w h = h
 backward-plain false w h = h
 
 family-plain : (f : Family) (w : List ℕ) → plain w ≡ true → plain (family_text f ++ w) ≡ true
-family-plain families.Integer w h = h
 family-plain families.IntAbs w h = h
-family-plain families.Text w h = h
-family-plain families.Bool w h = h
+family-plain f w h = h
 
 direction-plain : (a b : Bool) → plain (direction_text a b) ≡ true
 direction-plain true true = refl

@@ -5,11 +5,10 @@ use Rattle.std.specs.declared.alloc.Global.{Global}
 use Rattle.pg_base.specs.Names.{is_in_name}
 use Rattle.pg_base.specs.declared.numbers.RelNo.{RelNo}
 use Rattle.pg_value.specs.declared.operators.Family.{Family}
-use Rattle.pg_value.specs.declared.operators.Family.TheVariants.{IntAbs}
 use Rattle.pg_expr.specs.declared.operand.ColRef.{ColRef}
 use Rattle.catalog.specs.Contents.{Contents, name_at}
 use Rattle.catalog.specs.Range.{relation_at, table_of}
-use Rattle.eq_classes.specs.Classes.{has_member}
+use Rattle.eq_classes.specs.Classes.{has_member, is_abs}
 use Rattle.eq_classes.specs.Clauses.{Set, first_in}
 use Rattle.eq_classes.specs.Listing.{class_at}
 use Rattle.eq_classes.specs.declared.classes.ClassNo.{ClassNo}
@@ -22,11 +21,6 @@ use Rattle.sql_query.specs.Queries.{Query, width}
 use Rattle.sql_query.specs.WellBound.{IsColumnOf}
 use Rattle.certificate_entries.specs.declared.line_keys.KeyWords.{KeyWords}
 use Rattle.certificate_entries.specs.work.Parts.{has_no_comma}
-
--- the family is that of absolute values
-abbrev pub is_abs : Family → Bool
-is_abs IntAbs = true
-is_abs _ = false
 
 -- a text goes on no key: it begins with no byte of a name, and not with a space before the first letter of a family
 abbrev pub ends_key : List ℕ → Bool

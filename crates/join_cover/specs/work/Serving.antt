@@ -121,7 +121,7 @@ module _ (t : Certificate) where
   IsMergeBy keys x y (plain.Bitmap r param elements arms) = ⊥
   IsMergeBy keys x y (plain.Nest outer inner) = ⊥
 
-  -- by any list
+  -- a merge by any list of an entry of one set and one of another, each as it stands or sorted
   abbrev pub IsMergeOfSets : ℕ → ℕ → Plain → Type 0
   IsMergeOfSets x y node = (keys : Keys) × IsMergeBy keys x y node
 

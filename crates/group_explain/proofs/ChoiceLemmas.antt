@@ -13,8 +13,8 @@ use Rattle.group_values.specs.declared.form.Form.TheVariants.{Sorted, Hashed}
 use Rattle.group_values.specs.work.Choice.{input_of}
 use Rattle.group_values.specs.declared.task.GroupPlan.{GroupPlan}
 use Rattle.group_values.specs.declared.task.GroupTask.{GroupTask}
-use Rattle.group_explain.specs.GroupPlans.{GroupQuery, IsTaskOf}
-use Rattle.group_explain.specs.work.GroupPlans.{AreInputs, IsBestOf, IsLeastGroupPlan}
+use Rattle.group_explain.specs.GroupPlans.{GroupQuery}
+use Rattle.group_explain.specs.work.GroupPlans.{AreInputs, IsBestOf, IsLeastGroupPlan, IsTaskOf}
 use Rattle.group_query.specs.Grouping.{IsWellGrouped, group_items}
 use Rattle.group_explain.specs.Plans.{HasNoGroupPlan}
 use Rattle.group_explain.specs.work.Plans.{IsChosen, input_base, over_base}

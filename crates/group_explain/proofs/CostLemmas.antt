@@ -12,12 +12,13 @@ use Rattle.plan_tree.specs.work.Paths.{IsFinishedPath}
 use Rattle.plan_tree.specs.Plans.{Plan}
 use Rattle.plan_tree.specs.work.Views.{path}
 use Rattle.group_values.specs.declared.form.Form.{Form}
-use Rattle.group_values.specs.GroupCosts.{group_cost, group_total, groups_of, sorts_after}
+use Rattle.group_values.specs.work.GroupCosts.{group_cost, group_total, groups_of, sorts_after}
 use Rattle.group_values.specs.declared.task.GroupTask.{GroupTask}
 use Rattle.group_values.proofs.CostLemmas.{total-input}
-use Rattle.group_explain.specs.GroupPlans.{plan_total}
+use Rattle.group_explain.specs.work.GroupPlans.{task_total}
 use Rattle.group_explain.specs.work.Plans.{IsReady, input_base}
-use Rattle.group_explain.specs.Texts.{group_query, input_total}
+use Rattle.group_explain.specs.Texts.{group_query}
+use Rattle.group_explain.specs.work.Texts.{input_total}
 use Rattle.group_explain.specs.declared.chosen.Chosen.{Chosen}
 use Rattle.group_values.proofs.CostLemmas.{child-by}
 
@@ -32,8 +33,8 @@ module _ (c : Contents) (g : GroupedQuery) (x : Chosen) (ready : IsReady c g x) 
   abbrev tree : Plan
   tree = (path x.input).tree
 
-  total-below : plan_total c (group_query g) x.task x.plan.form tree < MOST_COST
-  total-below = subst (λ p. plan_total c (group_query g) x.task x.plan.form p < MOST_COST) ready.chosen.input ready.chosen.least.is.admissible
+  total-below : task_total c (group_query g) x.task x.plan.form tree < MOST_COST
+  total-below = subst (λ p. task_total c (group_query g) x.task x.plan.form p < MOST_COST) ready.chosen.input ready.chosen.least.is.admissible
 
   -- the input costs less than 10^18
   input-below : IsAdmissible c (input_base x.plan.form g) tree

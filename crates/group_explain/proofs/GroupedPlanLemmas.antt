@@ -17,9 +17,9 @@ use Rattle.group_values.specs.declared.task.GroupPlan.{GroupPlan}
 use Rattle.group_values.specs.declared.task.GroupTask.{GroupTask}
 use Rattle.group_values.specs.work.Choice as choice
 use Rattle.group_values.specs.work.Choice.{input_of}
-use Rattle.group_values.specs.GroupCosts.{group_total, is_offered}
-use Rattle.group_explain.specs.GroupPlans.{GroupQuery, IsGroupPlan, input_query, plan_total}
-use Rattle.group_explain.specs.work.GroupPlans.{AreInputs, IsBestOf, IsLeastGroupPlan}
+use Rattle.group_values.specs.work.GroupCosts.{group_total, is_offered}
+use Rattle.group_explain.specs.GroupPlans.{GroupQuery, input_query}
+use Rattle.group_explain.specs.work.GroupPlans.{AreInputs, IsBestOf, IsLeastGroupPlan, IsTaskPlan, task_total}
 
 abbrev total_kept : Option Path → Option ℕ
 total_kept o = option_map (λ (p : Path). p.cost) o
@@ -60,7 +60,7 @@ given None n e = cc e
 given (Some best) n e = record { best = best; is = refl; total = cc }
 
 module _ (c : Contents) (g : GroupQuery) (t : GroupTask) (plain sorted : Option Path) (inputs : AreInputs c g t plain sorted) where
-  dearer : (form : Form) (p : Plan) → IsGroupPlan c g t form p → choice.IsNoLess (input_of form (total_kept plain) (total_kept sorted)) (cost c (input_query form g) p).total
+  dearer : (form : Form) (p : Plan) → IsTaskPlan c g t form p → choice.IsNoLess (input_of form (total_kept plain) (total_kept sorted)) (cost c (input_query form g) p).total
   dearer form p is =
       subst (λ o. choice.IsNoLess o (cost c (input_query form g) p).total) (sym (of-form form plain sorted))
       (no-less c (input_query form g) (whole-query form g inputs.whole) (input_of form plain sorted) (inputs.best form) p is.input)
@@ -74,7 +74,7 @@ module _ (c : Contents) (g : GroupQuery) (t : GroupTask) (plain sorted : Option 
       let from = given (input_of x.form plain sorted) is.input (sym (of-form x.form plain sorted) ∙ is.over) in
       let best = subst (IsBestOf c (input_query x.form g)) from.is (inputs.best x.form) in
       let total : (cost c (input_query x.form g) from.best.tree).total ≡ is.input = sym best.0.numbers.cost ∙ from.total in
-      let same : x.cost ≡ plan_total c g t x.form from.best.tree = is.cost ∙ ap (group_total x.form t) (sym total) in
+      let same : x.cost ≡ task_total c g t x.form from.best.tree = is.cost ∙ ap (group_total x.form t) (sym total) in
       record {
         plan = from.best.tree;
         is = record { offered = is.offered; input = best.0.finished; admissible = subst (λ n. n < MOST_COST) same is.admissible };

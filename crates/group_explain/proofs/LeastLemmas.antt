@@ -16,8 +16,8 @@ use Rattle.group_values.specs.work.Choice.{input_of}
 use Rattle.group_values.specs.declared.task.GroupPlan.{GroupPlan}
 use Rattle.group_values.specs.declared.task.GroupTask.{GroupTask}
 use Rattle.group_values.proofs.CostLemmas.{total-input, total-rises}
-use Rattle.group_explain.specs.GroupPlans.{GroupQuery, IsGroupPlan, IsLeastOf, IsTaskOf, input_query, plan_total}
-use Rattle.group_explain.specs.work.GroupPlans.{AreInputs, IsBestOf}
+use Rattle.group_explain.specs.GroupPlans.{GroupQuery, input_query}
+use Rattle.group_explain.specs.work.GroupPlans.{AreInputs, IsBestOf, IsLeastOfTask, IsTaskOf, IsTaskPlan, task_total}
 use Rattle.group_query.specs.Grouping.{IsWellGrouped, group_items}
 use Rattle.group_explain.specs.work.Plans.{IsChosen}
 use Rattle.group_explain.specs.Texts.{group_query}
@@ -30,10 +30,10 @@ price-whole c q whole p = ap (λ w. price_by c q w p) whole
 
 -- a least plan that groups over another plan
 record IsLeastOver (c : Contents) (g : GroupQuery) (t : GroupTask) (x : GroupPlan) (p : Plan) : Type 0 where
-  least : IsLeastOf c g t x
+  least : IsLeastOfTask c g t x
   over : least.plan ≡ p
 
-module _ (c : Contents) (g : GroupQuery) (t : GroupTask) (x : GroupPlan) (whole : g.base.window ≡ None) (is : IsLeastOf c g t x) where
+module _ (c : Contents) (g : GroupQuery) (t : GroupTask) (x : GroupPlan) (whole : g.base.window ≡ None) (is : IsLeastOfTask c g t x) where
   abbrev q : Query
   q = input_query x.form g
 
@@ -45,10 +45,10 @@ module _ (c : Contents) (g : GroupQuery) (t : GroupTask) (x : GroupPlan) (whole 
     no-dearer : (cost c q best.tree).total ≤ (cost c q is.plan).total
     no-dearer = omega (arith, least.least is.plan is.is.input input-admissible, price-whole c q (whole-query x.form g whole) best.tree, price-whole c q (whole-query x.form g whole) is.plan)
 
-    total-no-dearer : plan_total c g t x.form best.tree ≤ plan_total c g t x.form is.plan
+    total-no-dearer : task_total c g t x.form best.tree ≤ task_total c g t x.form is.plan
     total-no-dearer = total-rises x.form t (cost c q best.tree).total (cost c q is.plan).total no-dearer
 
-    plan-over : IsGroupPlan c g t x.form best.tree
+    plan-over : IsTaskPlan c g t x.form best.tree
     plan-over = record { offered = is.is.offered; input = finished.finished; admissible = omega (arith, total-no-dearer, is.is.admissible) }
 
     least-over : IsLeastOver c g t x best.tree
@@ -79,12 +79,12 @@ module _ (c : Contents) (g : GroupedQuery) (bound : IsWellGrouped c g) (t : Grou
   inputs = record { whole = bound.whole; task = task; best = best-of }
 
   -- the chosen form has an input
-  pub some-input : (x : GroupPlan) → IsLeastOf c (group_query g) t x → input_of x.form plain sorted ≢ None
+  pub some-input : (x : GroupPlan) → IsLeastOfTask c (group_query g) t x → input_of x.form plain sorted ≢ None
   some-input x is =
       some-best c (input_query x.form (group_query g)) (input_of x.form plain sorted) (best-of x.form) is.plan is.is.input
       (input-admissible c (group_query g) t x bound.whole is)
 
-  chosen-of : (x : Chosen) → x.task ≡ t → IsLeastOf c (group_query g) t x.plan → input_of x.plan.form plain sorted ≡ Some (path x.input) → IsChosen c g x
+  chosen-of : (x : Chosen) → x.task ≡ t → IsLeastOfTask c (group_query g) t x.plan → input_of x.plan.form plain sorted ≡ Some (path x.input) → IsChosen c g x
   chosen-of x of_task is e =
       let best : IsBestOf c (input_query x.plan.form (group_query g)) (Some (path x.input)) = subst (IsBestOf c (input_query x.plan.form (group_query g))) e (best-of x.plan.form) in
       let over = least-over c (group_query g) t x.plan bound.whole is (path x.input) best.0 best.1 in
@@ -92,7 +92,7 @@ module _ (c : Contents) (g : GroupedQuery) (bound : IsWellGrouped c g) (t : Grou
       (record { task = task; least = over.least; input = over.over; finished = best.0 })
 
   -- what is made of a least plan and its input is chosen
-  pub chosen : (x : Chosen) (p : GroupPlan) → x.task ≡ t → x.plan ≡ p → input_of p.form plain sorted ≡ Some (path x.input) → IsLeastOf c (group_query g) t p → IsChosen c g x
+  pub chosen : (x : Chosen) (p : GroupPlan) → x.task ≡ t → x.plan ≡ p → input_of p.form plain sorted ≡ Some (path x.input) → IsLeastOfTask c (group_query g) t p → IsChosen c g x
   chosen x p of_task of_plan e is =
-      chosen-of x of_task (subst (IsLeastOf c (group_query g) t) (sym of_plan) is)
+      chosen-of x of_task (subst (IsLeastOfTask c (group_query g) t) (sym of_plan) is)
       (ap (λ (y : GroupPlan). input_of y.form plain sorted) of_plan ∙ e)

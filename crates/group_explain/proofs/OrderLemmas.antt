@@ -14,12 +14,12 @@ use Rattle.plan_tree.specs.Plans.{Plan}
 use Rattle.plan_tree.specs.work.Views.{path}
 use Rattle.group_values.specs.declared.form.Form.{Form}
 use Rattle.group_values.specs.declared.form.Form.TheVariants.{Sorted, Hashed}
-use Rattle.group_values.specs.GroupCosts.{sorts_after}
-use Rattle.group_values.specs.work.GroupCosts.{IsTask}
+use Rattle.group_values.specs.work.GroupCosts.{IsTask, sorts_after}
 use Rattle.group_values.specs.declared.task.GroupPlan.{GroupPlan}
 use Rattle.group_values.specs.declared.task.GroupTask.{GroupTask}
 use Rattle.pathkeys.specs.Keys.{covers}
-use Rattle.group_explain.specs.GroupPlans.{IsGroupPlan, IsLeastOf, IsTaskOf, distinct_in, distinct_of, form_keys, group_keys, input_query, line_keys, plan_total}
+use Rattle.group_explain.specs.GroupPlans.{distinct_in, distinct_of, form_keys, group_keys, input_query, line_keys}
+use Rattle.group_explain.specs.work.GroupPlans.{IsLeastOfTask, IsTaskOf, IsTaskPlan, task_total}
 use Rattle.group_query.specs.Grouping.{IsWellGrouped, group_items}
 use Rattle.group_explain.specs.work.Plans.{IsChosen, IsReady, input_base, over_base}
 use Rattle.group_explain.specs.Texts.{group_query}
@@ -51,15 +51,15 @@ module _ (c : Contents) (g : GroupedQuery) (o : List OrderItem) where
   same-keys Sorted = refl
   same-keys Hashed = refl
 
-  same-total : (t : GroupTask) (f : Form) (p : Plan) → plan_total c (group_query asked) t f p ≡ plan_total c (group_query g) t f p
+  same-total : (t : GroupTask) (f : Form) (p : Plan) → task_total c (group_query asked) t f p ≡ task_total c (group_query g) t f p
   same-total t Sorted p = refl
   same-total t Hashed p = refl
 
-  plan-here : (t : GroupTask) (f : Form) (p : Plan) → IsGroupPlan c (group_query g) t f p → IsGroupPlan c (group_query asked) t f p
+  plan-here : (t : GroupTask) (f : Form) (p : Plan) → IsTaskPlan c (group_query g) t f p → IsTaskPlan c (group_query asked) t f p
   plan-here t Sorted p is = record { offered = is.offered; input = is.input; admissible = is.admissible }
   plan-here t Hashed p is = record { offered = is.offered; input = is.input; admissible = is.admissible }
 
-  plan-there : (t : GroupTask) (f : Form) (p : Plan) → IsGroupPlan c (group_query asked) t f p → IsGroupPlan c (group_query g) t f p
+  plan-there : (t : GroupTask) (f : Form) (p : Plan) → IsTaskPlan c (group_query asked) t f p → IsTaskPlan c (group_query g) t f p
   plan-there t Sorted p is = record { offered = is.offered; input = is.input; admissible = is.admissible }
   plan-there t Hashed p is = record { offered = is.offered; input = is.input; admissible = is.admissible }
 
@@ -82,7 +82,7 @@ module _ (c : Contents) (g : GroupedQuery) (o : List OrderItem) where
       by Sorted = is.sorts Sorted
       by Hashed = is.sorts Hashed
 
-  abbrev least-here : (t : GroupTask) (x : GroupPlan) → IsLeastOf c (group_query g) t x → IsLeastOf c (group_query asked) t x
+  abbrev least-here : (t : GroupTask) (x : GroupPlan) → IsLeastOfTask c (group_query g) t x → IsLeastOfTask c (group_query asked) t x
   least-here t x is = record {
     plan = is.plan;
     is = plan-here t x.form is.plan is.is;

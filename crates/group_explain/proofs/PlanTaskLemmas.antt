@@ -16,9 +16,9 @@ use Rattle.plan_tree.specs.Space.{IsSameSet}
 use Rattle.group_values.specs.declared.form.Form.{Form}
 use Rattle.group_values.specs.declared.form.Form.TheVariants.{Sorted, Hashed}
 use Rattle.group_values.specs.declared.task.GroupTask.{GroupTask}
-use Rattle.group_values.specs.GroupCosts.{sorts_after}
-use Rattle.group_explain.specs.GroupPlans.{GroupQuery, IsTaskOf, distinct_of, form_keys, group_keys, line_keys}
-use Rattle.group_explain.specs.work.GroupPlans.{IsAskedBy}
+use Rattle.group_values.specs.work.GroupCosts.{sorts_after}
+use Rattle.group_explain.specs.GroupPlans.{GroupQuery, distinct_of, form_keys, group_keys, line_keys}
+use Rattle.group_explain.specs.work.GroupPlans.{IsAskedBy, IsTaskOf}
 
 pub rows-are : (c : Contents) (q : Query) (range : Range) (classes : ClassTable) (s : Set) (n : ℕ) → n ≡ set_rows c range classes s → range ≡ q.range → classes ≡ q.classes → IsSameSet s (all_of_query q) → n ≡ query_rows c q
 rows-are c q range classes s n e f g same =

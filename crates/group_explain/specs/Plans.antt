@@ -4,27 +4,24 @@ use Rattle.catalog.specs.Contents.{Contents}
 use Rattle.sql_query.specs.Grouped.{GroupedQuery}
 use Rattle.plan_tree.specs.Plans.{Plan}
 use Rattle.group_values.specs.declared.form.Form.{Form}
-use Rattle.group_values.specs.declared.task.GroupPlan.{GroupPlan}
-use Rattle.group_values.specs.declared.task.GroupTask.{GroupTask}
-use Rattle.group_explain.specs.GroupPlans.{IsGroupPlan, IsLeastOf, IsTaskOf}
+use Rattle.group_explain.specs.GroupPlans.{IsGroupPlan, IsLeastOf}
 use Rattle.reply.specs.Effort.{exactly}
 use Rattle.reply.specs.Replies.{Reply}
 use Rattle.group_explain.specs.Texts.{group_plan_text, group_query}
 
 -- the text of a plan that groups, with its own cost, which no plan that groups undercuts
-pub record IsGroupExplanation (c : Contents) (g : GroupedQuery) (t : GroupTask) (chosen : GroupPlan) (bytes : List ℕ) : Type 0 where
-  pub task : IsTaskOf c (group_query g) t
-  pub least : IsLeastOf c (group_query g) t chosen
-  pub printed : bytes ≡ group_plan_text c g t chosen least.plan
+pub record IsGroupExplanation (c : Contents) (g : GroupedQuery) (form : Form) (plan : Plan) (bytes : List ℕ) : Type 0 where
+  pub least : IsLeastOf c (group_query g) form plan
+  pub printed : bytes ≡ group_plan_text c g form plan
 
--- EXPLAIN of a grouped SELECT: that text, with nothing fetched and nothing looked at
+-- EXPLAIN of a grouped SELECT: the text of a least plan that groups, with nothing fetched and nothing looked at
 pub record IsGroupedExplanationOf (c : Contents) (g : GroupedQuery) (r : Reply) : Type 0 where
-  pub task : GroupTask
-  pub chosen : GroupPlan
-  pub explanation : IsGroupExplanation c g task chosen r.bytes
+  pub form : Form
+  pub plan : Plan
+  pub explanation : IsGroupExplanation c g form plan r.bytes
   pub fetched : r.fetched ≡ exactly 0
   pub looked : r.looked ≡ 0
 
 -- no plan that groups the tuples of the query costs less than 10^18
 abbrev pub HasNoGroupPlan : Contents → GroupedQuery → Type 0
-HasNoGroupPlan c g = (t : GroupTask) → IsTaskOf c (group_query g) t → (form : Form) (p : Plan) → ¬ IsGroupPlan c (group_query g) t form p
+HasNoGroupPlan c g = (form : Form) (p : Plan) → ¬ IsGroupPlan c (group_query g) form p

@@ -5,7 +5,6 @@ use Rattle.std.specs.Fmt.{decimal}
 use Rattle.catalog.specs.Contents.{Contents}
 use Rattle.reply.specs.explain_Texts.{figures_text, keys_text, lead, text_at}
 use Rattle.pathkeys.specs.Keys.{Keys}
-use Rattle.plan_tree.specs.Costs.{cost}
 use Rattle.plan_tree.specs.Plans.{Plan}
 use Rattle.sql_query.specs.Grouped.{GroupedQuery}
 use Rattle.sql_query.specs.Queries.{all_of_query}
@@ -13,10 +12,7 @@ use Rattle.group_query.specs.Grouping.{group_items}
 use Rattle.group_query.specs.Shapes.{calls_of}
 use Rattle.group_values.specs.declared.form.Form.{Form}
 use Rattle.group_values.specs.declared.form.Form.TheVariants.{Sorted, Hashed}
-use Rattle.group_values.specs.declared.task.GroupPlan.{GroupPlan}
-use Rattle.group_values.specs.declared.task.GroupTask.{GroupTask}
-use Rattle.group_values.specs.GroupCosts.{group_cost}
-use Rattle.group_explain.specs.GroupPlans.{GroupQuery, group_keys, input_query, line_keys}
+use Rattle.group_explain.specs.GroupPlans.{GroupQuery, group_keys, group_rows, input_query, is_sorted_after, line_keys, node_total, plan_total}
 
 -- what is grouped, as plans that group see it
 abbrev pub group_query : GroupedQuery → GroupQuery
@@ -49,21 +45,21 @@ module _ (c : Contents) (g : GroupedQuery) where
   abbrev pub group_line : ℕ → List ℕ → ℕ → ℕ → List ℕ
   group_line d title total rows = lead d ++ (title ++ figures_text (decimal total) rows)
 
-  -- the total of the input of a plan that groups
-  abbrev pub input_total : Form → Plan → ℕ
-  input_total form p = (cost c (input_query form (group_query g)) p).total
+  -- the line of the sort of the groups, with a total and so many groups
+  abbrev pub sort_line : ℕ → ℕ → List ℕ
+  sort_line total groups = group_line 0 (codes "Sort by " ++ all_keys_text (line_keys (group_query g))) total groups
 
-  -- the line of the sort of the groups
-  abbrev pub sort_line : GroupPlan → List ℕ
-  sort_line chosen = group_line 0 (codes "Sort by " ++ all_keys_text (line_keys (group_query g))) chosen.cost chosen.rows
+  -- the lines above the input, with what the node that groups costs, what the plan costs in all, and so many groups: with a
+  -- sort of the groups on top its line stands first
+  abbrev pub lines_above : Form → ℕ → ℕ → ℕ → Bool → List ℕ
+  lines_above form node total groups true = sort_line total groups ++ group_line 1 (group_title form) node groups
+  lines_above form node total groups false = group_line 0 (group_title form) total groups
 
-  -- the lines above the input: with a sort of the groups on top its line stands first
-  abbrev pub lines_above : GroupTask → GroupPlan → Plan → Bool → List ℕ
-  lines_above t chosen p true =
-      sort_line chosen ++ group_line 1 (group_title chosen.form) (group_cost chosen.form t (input_total chosen.form p)) chosen.rows
-  lines_above t chosen p false = group_line 0 (group_title chosen.form) chosen.cost chosen.rows
+  -- the lines above the input of a plan that groups, with its own costs and its groups
+  abbrev pub plan_lines_above : Form → Plan → Bool → List ℕ
+  plan_lines_above form p sort_after = lines_above form (node_total c (group_query g) form p) (plan_total c (group_query g) form p) (group_rows c (group_query g)) sort_after
 
   -- a plan that groups: these lines, and the input plan beneath them
-  abbrev pub group_plan_text : GroupTask → GroupPlan → Plan → List ℕ
-  group_plan_text t chosen p =
-      lines_above t chosen p chosen.sort_after ++ text_at c (input_query chosen.form (group_query g)) (input_depth chosen.sort_after) p
+  abbrev pub group_plan_text : Form → Plan → List ℕ
+  group_plan_text form p =
+      plan_lines_above form p (is_sorted_after form (group_query g)) ++ text_at c (input_query form (group_query g)) (input_depth (is_sorted_after form (group_query g))) p

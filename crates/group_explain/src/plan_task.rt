@@ -6,8 +6,8 @@ ghost use Rattle.sql_query.specs.Queries.{all_of_query};
 ghost use Rattle.sql_query.specs.WellBound.{IsWellBound};
 ghost use Rattle.plan_tree.specs.Space.{IsSameSet};
 ghost use Rattle.group_values.specs.work.GroupCosts.{IsTask};
-ghost use Rattle.group_explain.specs.GroupPlans.{GroupQuery, IsTaskOf, distinct_of};
-ghost use Rattle.group_explain.specs.work.GroupPlans.{IsAskedBy};
+ghost use Rattle.group_explain.specs.GroupPlans.{GroupQuery, distinct_of};
+ghost use Rattle.group_explain.specs.work.GroupPlans.{IsAskedBy, IsTaskOf};
 
 use catalog::Catalog;
 use group_values::GroupTask;

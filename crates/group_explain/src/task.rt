@@ -9,7 +9,8 @@ ghost use Rattle.plan_tree.specs.Space.{IsSameSet};
 ghost use Rattle.group_values.specs.work.GroupCosts.{IsTask};
 ghost use Rattle.group_explain.specs.GroupPlans as plans;
 ghost use Rattle.group_explain.specs.work.GroupPlans as plans_work;
-ghost use Rattle.group_explain.specs.GroupPlans.{IsTaskOf, distinct_of};
+ghost use Rattle.group_explain.specs.GroupPlans.{distinct_of};
+ghost use Rattle.group_explain.specs.work.GroupPlans.{IsTaskOf};
 ghost use Rattle.group_explain.specs.Texts.{group_query};
 
 use crate::keys::{group_keys, line_keys};

@@ -102,7 +102,8 @@ fn put_sort_line(
 ) -> Result<(), Memory>
     requires bound { IsWellBound cat.now g.now.base }
     ensures { OnOk result
-        (text.new.items ≡ text.old.items ++ texts.sort_line cat.now g.now x.now.plan) }
+        (text.new.items ≡
+        text.old.items ++ texts.sort_line cat.now g.now x.now.plan.cost x.now.plan.rows) }
 {
     let keys = line_keys(alloc, g)?;
     text.extend_from_slice(b"Sort by ")?;

@@ -1,5 +1,5 @@
 -- From the plan that is chosen for a grouped query to its answer.
-use Rattle.std.proofs.Common.{◌≡◌, ℕ, Bool, true, false, not, List, [], map, refl, sym, ap, ◌∙◌, subst, IsPermutation}
+use Rattle.std.proofs.Common.{◌≡◌, ℕ, Bool, true, false, not, List, [], get_or, map, refl, sym, ap, ◌∙◌, subst, IsPermutation}
 use Rattle.std.proofs.Common.{Result, Ok, Err}
 use Rattle.std.specs.Result.{IsErrAnd}
 use Rattle.eq_classes.specs.declared.order.OrderItem.{OrderItem}
@@ -21,17 +21,19 @@ use Rattle.group_values.specs.declared.form.Form.TheVariants.{Sorted, Hashed}
 use Rattle.group_values.specs.work.Grouping.{final_shape}
 use Rattle.group_values.specs.work.Neighbours.{AreTogether}
 use Rattle.group_values.specs.declared.task.GroupTask.{GroupTask}
-use Rattle.group_explain.specs.GroupPlans.{IsLeastOf, IsTaskOf}
+use Rattle.group_explain.specs.work.GroupPlans.{IsLeastOfTask, IsTaskOf}
 use Rattle.group_runs.proofs.BagLemmas.{groups-in-order}
 use Rattle.group_runs.specs.Seen.{seen_of}
 use Rattle.group_runs.proofs.OrderLemmas.{plan-needs-no-sort}
-use Rattle.group_runs.proofs.RunLemmas.{plan-lines, plan-neighbours}
+use Rattle.group_runs.proofs.RunLemmas.{plan-groups, plan-lines, plan-neighbours}
 use Rattle.group_query.specs.Grouping.{IsWellGrouped, group_items}
 use Rattle.group_query.specs.Shapes.{args_of, shape_of}
 use Rattle.group_explain.specs.declared.chosen.Chosen.{Chosen}
 use Rattle.group_explain.specs.Plans.{IsGroupedExplanationOf}
 use Rattle.group_explain.specs.work.Plans.{IsChosen, input_base, over_base}
-use Rattle.group_explain.specs.Texts.{group_plan_text, group_query}
+use Rattle.group_explain.specs.Texts.{group_query}
+use Rattle.group_explain.specs.work.Texts.{task_text}
+use Rattle.group_explain.proofs.NumberLemmas.{text-explains}
 use Rattle.group_explain.specs.reply_Effort.{exactly}
 use Rattle.group_explain.specs.reply_Putting.{HasWriteCause}
 use Rattle.group_explain.specs.reply_Replies.{HasBegun, HasReplied, Reply, Traces}
@@ -41,8 +43,8 @@ use Rattle.group_explain.specs.reply_stop_Broken_TheVariants.{Write, Memory}
 use Rattle.group_explain.specs.reply_stop_Stop.{Stop}
 use Rattle.group_explain.specs.reply_stop_Stop_TheVariants as stops
 use Rattle.group_reply.specs.work.Drawing.{IsInputFor, drawn_reply}
-use Rattle.group_reply.specs.Replies.{AreOrderedLines, IsGroupedAnswerTo, meant_lines, seen_at}
-use Rattle.group_reply.proofs.ColumnLemmas.{args-there, columns-are, sorters-are}
+use Rattle.group_reply.specs.Replies.{AreOrderedLines, IsGroupedAnswerTo, meant_groups, meant_lines, seen_at}
+use Rattle.group_reply.proofs.ColumnLemmas.{args-there, columns-are, item-there, sorters-are}
 
 covered : (b : Bool) → false ≡ not b → b ≡ true
 covered true e = refl
@@ -62,6 +64,9 @@ module _ (w : World) (g : GroupedQuery) (world : IsWorld w) (bound : IsWellGroup
     lines-meant : IsPermutation (lines (shape_of g) (ran w g o p)) (meant_lines w g)
     lines-meant = plan-lines w (in_order_of g.base o) p world ordered finished (shape_of g) g.keys (args_of g.items) refl
 
+    groups-meant : IsPermutation (sorted (shape_of g).order (summaries (shape_of g) (ran w g o p))) (meant_groups w g)
+    groups-meant = plan-groups w (in_order_of g.base o) p world ordered finished (shape_of g) g.keys (args_of g.items) refl
+
     -- where the keys of ORDER BY are the first of the plan's, no sort of the groups changes their lines
     lines-final : (after : Bool) → after ≡ not (covers (order_keys g.base.classes o) (order_keys g.base.classes g.order))
         → lines (final_shape after (shape_of g)) (ran w g o p) ≡ lines (shape_of g) (ran w g o p)
@@ -74,24 +79,24 @@ module _ (w : World) (g : GroupedQuery) (world : IsWorld w) (bound : IsWellGroup
         → IsPermutation (lines (final_shape after (shape_of g)) (ran w g o p)) (meant_lines w g)
     lines-shown after e = let P : List (List Value) → Type 0 = λ l. IsPermutation l (meant_lines w g) in subst P (sym (lines-final after e)) lines-meant
 
-  ordered-lines : (ss : List Seen) (shown : List (List Value)) → shown ≡ lines (shape_of g) ss → AreOrderedLines w g shown
-  ordered-lines ss shown are = record { groups = sorted (shape_of g).order (summaries (shape_of g) ss); are = are; ordered = groups-in-order (shape_of g) ss }
+    ordered-lines : (shown : List (List Value)) → shown ≡ lines (shape_of g) (ran w g o p) → AreOrderedLines w g shown
+    ordered-lines shown are = record { groups = sorted (shape_of g).order (summaries (shape_of g) (ran w g o p)); meant = groups-meant; are = are; ordered = groups-in-order (shape_of g) (ran w g o p) }
 
   answer-by : (form : Form) (after : Bool) (cost rows : ℕ) (t : GroupTask) → IsTaskOf w.contents (group_query g) t
-      → (least : IsLeastOf w.contents (group_query g) t (record { form = form; sort_after = after; cost = cost; rows = rows }))
+      → (least : IsLeastOfTask w.contents (group_query g) t (record { form = form; sort_after = after; cost = cost; rows = rows }))
       → IsGroupedAnswerTo w g (drawn_reply w (input_base form g) g t (record { form = form; sort_after = after; cost = cost; rows = rows }) least.plan)
   answer-by Sorted after cost rows t task least =
       let o : List OrderItem = group_items g.base.classes g.keys in
       let same : lines (final_shape after (shape_of g)) (ran w g o least.plan) ≡ lines (shape_of g) (ran w g o least.plan) = lines-final o bound.by_groups least.plan least.is.input after least.sort_after in
       record {
-        task = t;
-        chosen = record { form = Sorted; sort_after = after; cost = cost; rows = rows };
-        text = group_plan_text w.contents g t (record { form = Sorted; sort_after = after; cost = cost; rows = rows }) least.plan;
-        explanation = record { task = task; least = least; printed = refl };
+        form = Sorted;
+        plan = least.plan;
+        text = task_text w.contents g t (record { form = Sorted; sort_after = after; cost = cost; rows = rows }) least.plan;
+        explanation = text-explains w.contents g t (record { form = Sorted; sort_after = after; cost = cost; rows = rows }) task least;
         shown = lines (final_shape after (shape_of g)) (ran w g o least.plan);
         of_plan = same;
         meant = lines-shown o bound.by_groups least.plan least.is.input after least.sort_after;
-        ordered = ordered-lines (ran w g o least.plan) (lines (final_shape after (shape_of g)) (ran w g o least.plan)) same;
+        ordered = ordered-lines o bound.by_groups least.plan least.is.input (lines (final_shape after (shape_of g)) (ran w g o least.plan)) same;
         printed = refl;
         fetched = refl;
         looked = refl;
@@ -100,14 +105,14 @@ module _ (w : World) (g : GroupedQuery) (world : IsWorld w) (bound : IsWellGroup
       let o : List OrderItem = [] in
       let same : lines (final_shape after (shape_of g)) (ran w g o least.plan) ≡ lines (shape_of g) (ran w g o least.plan) = lines-final o plain-bound least.plan least.is.input after least.sort_after in
       record {
-        task = t;
-        chosen = record { form = Hashed; sort_after = after; cost = cost; rows = rows };
-        text = group_plan_text w.contents g t (record { form = Hashed; sort_after = after; cost = cost; rows = rows }) least.plan;
-        explanation = record { task = task; least = least; printed = refl };
+        form = Hashed;
+        plan = least.plan;
+        text = task_text w.contents g t (record { form = Hashed; sort_after = after; cost = cost; rows = rows }) least.plan;
+        explanation = text-explains w.contents g t (record { form = Hashed; sort_after = after; cost = cost; rows = rows }) task least;
         shown = lines (final_shape after (shape_of g)) (ran w g o least.plan);
         of_plan = same;
         meant = lines-shown o plain-bound least.plan least.is.input after least.sort_after;
-        ordered = ordered-lines (ran w g o least.plan) (lines (final_shape after (shape_of g)) (ran w g o least.plan)) same;
+        ordered = ordered-lines o plain-bound least.plan least.is.input (lines (final_shape after (shape_of g)) (ran w g o least.plan)) same;
         printed = refl;
         fetched = refl;
         looked = refl;
@@ -120,6 +125,7 @@ module _ (w : World) (g : GroupedQuery) (world : IsWorld w) (bound : IsWellGroup
       record {
         finished = finished;
         seen = record { of_groups = bound.keys; of_calls = args-there w.contents g g.items bound.items };
+        items = λ i d lt. item-there w.contents g (get_or g.items i d) (bound.items i d lt);
         together = λ is. subst P (columns-are g.base.classes g.keys) (plan-neighbours w q p world bound.by_groups finished (args_of g.items));
         few_keys = bound.few_keys;
         few_calls = bound.few_calls;
@@ -127,6 +133,7 @@ module _ (w : World) (g : GroupedQuery) (world : IsWorld w) (bound : IsWellGroup
   input-by Hashed p finished = record {
     finished = finished;
     seen = record { of_groups = bound.keys; of_calls = args-there w.contents g g.items bound.items };
+    items = λ i d lt. item-there w.contents g (get_or g.items i d) (bound.items i d lt);
     together = λ is. absurd (cc is);
     few_keys = bound.few_keys;
     few_calls = bound.few_calls;
@@ -166,8 +173,8 @@ module _ (w : World) (g : GroupedQuery) (world : IsWorld w) (bound : IsWellGroup
 
     pub has-explanation : (r : Reply) × IsGroupedExplanationOf w.contents g r
     has-explanation = (
-      record { bytes = group_plan_text w.contents g x.task x.plan chosen.least.plan; fetched = exactly 0; looked = 0 },
-      record { task = x.task; chosen = x.plan; explanation = record { task = chosen.task; least = chosen.least; printed = refl }; fetched = refl; looked = refl },
+      record { bytes = task_text w.contents g x.task x.plan chosen.least.plan; fetched = exactly 0; looked = 0 },
+      record { form = x.plan.form; plan = chosen.least.plan; explanation = text-explains w.contents g x.task x.plan chosen.task chosen.least; fetched = refl; looked = refl },
     )
 
 -- a call that stopped

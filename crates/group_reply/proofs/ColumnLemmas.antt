@@ -23,7 +23,7 @@ use Rattle.sql_query.specs.declared.grouped.Item.TheVariants.{Key, CountAll, Cou
 use Rattle.group_runs.specs.work.Sorters.{AreSortersOf}
 use Rattle.group_query.specs.Grouping.{IsItemOf, directed_item, group_items}
 use Rattle.group_query.specs.Shapes.{args_of, place_in, place_or, sorter_in}
-use Rattle.group_reply.specs.work.Columns.{IsArgOf}
+use Rattle.group_reply.specs.work.Columns.{IsArgOf, IsItemIn}
 use Rattle.group_query.proofs.ItemLemmas.{directed-column}
 
 -- a column stands where it is looked for among some of which it is one
@@ -64,6 +64,13 @@ module _ (c : Contents) (g : GroupedQuery) where
   args-there (Count x ∷ is) all = All-cons arg-there (Some x) (args_of is) (All-head (IsItemOf c g) (Count x) is all) (args-there is (All-tail (IsItemOf c g) (Count x) is all))
   args-there (Min x ∷ is) all = All-cons arg-there (Some x) (args_of is) (All-head (IsItemOf c g) (Min x) is all) (args-there is (All-tail (IsItemOf c g) (Min x) is all))
   args-there (Max x ∷ is) all = All-cons arg-there (Some x) (args_of is) (All-head (IsItemOf c g) (Max x) is all) (args-there is (All-tail (IsItemOf c g) (Max x) is all))
+
+  pub item-there : (i : Item) → IsItemOf c g i → IsItemIn c g.base.range g.keys i
+  item-there (Key n) of = of
+  item-there CountAll of = tt
+  item-there (Count x) of = tt
+  item-there (Min x) of = of
+  item-there (Max x) of = of
 
 -- one value more
 pub values-more : {A B : Type 0} (f : A → B) (old new : List B) (v : B) (xs : List A) (i : ℕ) (d : A) → i < length xs → new ≡ old ++ v ∷ [] → v ≡ f (get_or xs i d)

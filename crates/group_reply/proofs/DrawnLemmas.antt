@@ -2,6 +2,7 @@
 use Rattle.std.proofs.Common.{◌≡◌, ℕ, ◌+◌, ◌*◌, ◌≤◌, List, ◌++◌, length, refl, ap, ap₂, ◌∙◌, subst, arith, Option}
 use Rattle.std.specs.Io.KnownBytes.{Appends}
 use Rattle.pg_base.specs.Writing.{AppendsPrefix}
+use Rattle.pg_value.specs.declared.value.SqlType.{SqlType}
 use Rattle.pg_value.specs.declared.value.Value.{Value}
 use Rattle.sql_query.specs.Grouped.{GroupedQuery}
 use Rattle.sql_query.specs.Queries.{Query}
@@ -13,11 +14,11 @@ use Rattle.executor.specs.work.Reading.{Reading}
 use Rattle.group_values.specs.declared.task.GroupPlan.{GroupPlan}
 use Rattle.group_values.specs.declared.task.GroupTask.{GroupTask}
 use Rattle.group_explain.specs.work.Plans.{over_base}
-use Rattle.group_explain.specs.Texts.{group_plan_text}
+use Rattle.group_explain.specs.work.Texts.{task_text}
 use Rattle.group_explain.specs.reply_Replies.{HasBegun, HasReplied, Reply, traces}
 use Rattle.group_explain.specs.reply_PuttingLemmas.{prefix-none}
 use Rattle.group_reply.specs.work.Drawing.{drawn, drawn_reply, final_lines, seen_all}
-use Rattle.group_reply.specs.Replies.{lines_text}
+use Rattle.group_reply.specs.Replies.{item_types, lines_text}
 
 -- nothing done yet
 pub begun-none : (reply : Reply) (a : Option (List ℕ)) (f l : ℕ) → HasBegun (λ r. r ≡ reply) (traces a f l) (traces a f l)
@@ -38,17 +39,22 @@ module _ (w : World) (q : Query) (asked : GroupedQuery) (t : GroupTask) (chosen 
       let P : Option (List ℕ) → Type 0 = λ h. AppendsPrefix a h reply.bytes in
       record { reply = reply; answers = refl; gained = subst P same (prefix-none a reply.bytes); fetched = omega (arith, fetched, owed); looked = few }
 
-  module _ (over : GroupedQuery) (base : Query) (same : over ≡ over_base base asked) (text : List ℕ) (text-is : text ≡ group_plan_text w.contents asked t chosen p) (shown : List (List Value))
+  module _ (over : GroupedQuery) (base : Query) (same : over ≡ over_base base asked) (text : List ℕ) (text-is : text ≡ task_text w.contents asked t chosen p) (shown : List (List Value))
       (shown-is : shown ≡ final_lines over chosen (seen_all w q over r.left)) (fetched : f' ≡ f + r.owed) where
     shown-of : shown ≡ final_lines asked chosen (seen_all w q asked (drawn w q asked p))
     shown-of =
         shown-is ∙ ap (λ (h : GroupedQuery). final_lines h chosen (seen_all w q h r.left)) same
         ∙ ap (λ (ts : List Tuple). final_lines asked chosen (seen_all w q asked ts)) left
 
-    bytes-are : text ++ lines_text shown ≡ reply.bytes
-    bytes-are = ap₂ (λ (x : List ℕ) (ls : List (List Value)). x ++ lines_text ls) text-is shown-of
+    abbrev types-of : GroupedQuery → List SqlType
+    types-of h = item_types w.contents q.range h.keys h.items
 
-    pub replied-drawn : Appends a b (text ++ lines_text shown) → HasReplied (λ s. s ≡ reply) (traces a f l) (traces b f' l')
+    bytes-are : text ++ lines_text (types-of over) shown ≡ reply.bytes
+    bytes-are =
+        ap₂ (λ (x : List ℕ) (ls : List (List Value)). x ++ lines_text (types-of over) ls) text-is shown-of
+        ∙ ap (λ (h : GroupedQuery). task_text w.contents asked t chosen p ++ lines_text (types-of h) (final_lines asked chosen (seen_all w q asked (drawn w q asked p)))) same
+
+    pub replied-drawn : Appends a b (text ++ lines_text (types-of over) shown) → HasReplied (λ s. s ≡ reply) (traces a f l) (traces b f' l')
     replied-drawn gained =
         let P : List ℕ → Type 0 = λ x. Appends a b x in
         record {
@@ -59,7 +65,7 @@ module _ (w : World) (q : Query) (asked : GroupedQuery) (t : GroupTask) (chosen 
           looked = few;
         }
 
-    pub begun-drawn : AppendsPrefix a b (text ++ lines_text shown) → HasBegun (λ s. s ≡ reply) (traces a f l) (traces b f' l')
+    pub begun-drawn : AppendsPrefix a b (text ++ lines_text (types-of over) shown) → HasBegun (λ s. s ≡ reply) (traces a f l) (traces b f' l')
     begun-drawn gained =
         let P : List ℕ → Type 0 = λ x. AppendsPrefix a b x in
         record { reply = reply; answers = refl; gained = subst P bytes-are gained; fetched = omega (arith, fetched, owed); looked = few }

@@ -5,3 +5,4 @@ pub mod SeenLemmas
 pub mod ShapeLemmas
 pub mod DrawnLemmas
 pub mod AnswerLemmas
+pub mod PrintableLemmas

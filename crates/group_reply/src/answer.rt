@@ -18,6 +18,7 @@ ghost use Rattle.group_reply.specs.Replies.{IsGroupedAnswerTo};
 use crate::drawing::draw_lines;
 use crate::lines::put_answer;
 use catalog::Catalog;
+use executor::plan_laws::values_fit_their_types;
 use executor::{Rows, tuples_have_rows};
 use group_explain::reply::{Broken, Setting, Stop};
 use group_explain::{Chosen, choose_groups, group_text};
@@ -114,8 +115,9 @@ fn answer_by<C: Counters, K: Sink>(
     ensures cause { HasWriteCause Broken.Write (K.faults out.old) (K.faults out.new) result }
 {
     tuples_have_rows();
+    values_fit_their_types();
     let text = group_text(at.alloc, at.cat, g, chosen)?;
     let mut rows = Rows::start(at.alloc, at.cat, at.q, &chosen.input.plan, at.store)?;
     let lines = draw_lines(at, g, chosen.plan, &mut rows, fetches, reads)?;
-    put_answer(at.alloc, &text, lines.items(), out)
+    put_answer(at, g, &text, lines.items(), out)
 }

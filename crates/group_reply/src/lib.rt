@@ -6,6 +6,7 @@ mod answer;
 mod columns;
 mod drawing;
 mod lines;
+mod types;
 
 pub use answer::{answer_groups, plan_groups};
 pub use group_explain;

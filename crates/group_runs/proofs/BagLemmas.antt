@@ -82,5 +82,13 @@ lines-moved shape gs hs p =
 pub bag-of-lines : (shape : GroupShape) (ss ts : List Seen) → All (λ (s : Seen). length s.keys ≡ shape.width) ss → IsPermutation ss ts → IsPermutation (lines shape ss) (lines shape ts)
 bag-of-lines shape ss ts widths p = to_std (lines shape ss) (lines shape ts) (lines-moved shape (summaries shape ss) (summaries shape ts) (by-width shape.width shape.calls ss ts widths p))
 
+-- the groups of tuples in another order, sorted, are as a bag the groups of the tuples
+pub bag-of-groups : (shape : GroupShape) (ss ts : List Seen) → All (λ (s : Seen). length s.keys ≡ shape.width) ss → IsPermutation ss ts → IsPermutation (sorted shape.order (summaries shape ss)) (summaries shape ts)
+bag-of-groups shape ss ts widths p =
+    let order = one_after_other (map sorter_order shape.order) in
+    let gs = summaries shape ss in
+    let hs = summaries shape ts in
+    to_std (in_order order gs) hs (join (in_order order gs) gs hs (sort-moves order gs) (by-width shape.width shape.calls ss ts widths p))
+
 pub groups-in-order : (shape : GroupShape) (ss : List Seen) → IsInOrder (one_after_other (map sorter_order shape.order)) (sorted shape.order (summaries shape ss))
 groups-in-order shape ss = in_order_is (one_after_other (map sorter_order shape.order)) (sorters_total shape.order) (summaries shape ss)

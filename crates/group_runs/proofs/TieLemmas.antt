@@ -1,16 +1,15 @@
 -- Tuples tie by items of an order exactly where the columns of these have the same values.
-use Rattle.std.proofs.Common.{◌≡◌, ◌≢◌, ◌<◌, ℕ, Bool, true, false, cond, List, [], ◌∷◌, map, refl, sym, ap, ap₂, ◌∙◌, arith, Ordering, Less, Equal, Greater}
-use Rattle.std.specs.Prelude.{Option, Some, None, pos, negsuc}
+use Rattle.std.proofs.Common.{◌≡◌, ◌≢◌, Bool, true, false, cond, List, [], ◌∷◌, map, refl, sym, ap, ap₂, ◌∙◌, Ordering, Less, Equal, Greater}
+use Rattle.std.specs.Prelude.{Option, Some, None}
 use Rattle.std.specs.Cmp.{IsTotalOrder}
 use Rattle.std.specs.Ordering.{is_eq, ordering_then}
-use Rattle.std.proofs.lemmas.Bool.{ltb-true}
 use Rattle.std.proofs.lemmas.Cmp.{on_total, then_total}
 use Rattle.pg_value.specs.declared.value.Value.{Value}
 use Rattle.pg_value.specs.declared.value.Value.TheVariants.{Null, Int, Bool as Flag, Text as String}
 use Rattle.pg_value.specs.declared.value.SqlType.{SqlType}
-use Rattle.pg_value.specs.declared.value.SqlType.TheVariants.{Int2, Int4, Int8, Text as TextType, Bool as BoolType}
+use Rattle.pg_value.specs.declared.value.SqlType.TheVariants.{Int2, Int4, Int8, Text as TextType, Bool as BoolType, Uuid as UuidType, Date as DateType, Timestamp as TimestampType, TimestampTz as TimestampTzType, Numeric as NumericType}
 use Rattle.pg_value.specs.declared.operators.Family.{Family}
-use Rattle.pg_value.specs.declared.operators.Family.TheVariants.{Integer, IntAbs, Text as TextOps, Bool as BoolOps}
+use Rattle.pg_value.specs.declared.operators.Family.TheVariants.{Integer, IntAbs, Text as TextOps, Bool as BoolOps, Uuid as UuidOps, Date as DateOps, Timestamp as TimestampOps, TimestampTz as TimestampTzOps, Numeric as NumericOps}
 use Rattle.pg_value.specs.ColumnOrder.{column_order, directed}
 use Rattle.pg_value.specs.Kinds.{directed_order, kind_order}
 use Rattle.pg_value.specs.work.Order.{IsOfFamily}
@@ -21,6 +20,8 @@ use Rattle.pg_value.proofs.KindLemmas.{as-columns}
 use Rattle.opfamily.specs.Answers.{default_family_of}
 use Rattle.catalog.specs.Range.{type_in}
 use Rattle.eq_classes.specs.declared.order.OrderItem.{OrderItem}
+use Rattle.eq_classes.proofs.DefaultLemmas.{no_default_abs}
+use Rattle.eq_classes.proofs.SideLemmas.{default_fits, type_fits}
 use Rattle.plan_laws.proofs.FitsLemmas.{values_fit}
 use Rattle.sql_query.specs.Meaning.{item_order, item_order_in}
 use Rattle.sql_query.specs.Queries.{Query}
@@ -62,6 +63,11 @@ family Int4 = Integer
 family Int8 = Integer
 family TextType = TextOps
 family BoolType = BoolOps
+family UuidType = UuidOps
+family DateType = DateOps
+family TimestampType = TimestampOps
+family TimestampTzType = TimestampTzOps
+family (NumericType digits scale) = NumericOps scale
 
 pub default-is : (t : SqlType) → default_family_of t ≡ Some (family t)
 default-is Int2 = refl
@@ -69,40 +75,17 @@ default-is Int4 = refl
 default-is Int8 = refl
 default-is TextType = refl
 default-is BoolType = refl
+default-is UuidType = refl
+default-is DateType = refl
+default-is TimestampType = refl
+default-is TimestampTzType = refl
+default-is (NumericType digits scale) = refl
 
 pub not-by-magnitude : (t : SqlType) → family t ≢ IntAbs
-not-by-magnitude Int2 e = cc e
-not-by-magnitude Int4 e = cc e
-not-by-magnitude Int8 e = cc e
-not-by-magnitude TextType e = cc e
-not-by-magnitude BoolType e = cc e
-
-none-below : {A : Type 0} (n : ℕ) → n < 0 → A
-none-below n lt = absurd (omega arith)
+not-by-magnitude t e = no_default_abs t (default-is t ∙ ap Some e)
 
 pub of-family : (t : SqlType) (v : Value) → IsOfType t v → IsOfFamily (family t) v
-of-family Int2 Null h = tt
-of-family Int4 Null h = tt
-of-family Int8 Null h = tt
-of-family TextType Null h = tt
-of-family BoolType Null h = tt
-of-family Int2 (Int n) h = tt
-of-family Int4 (Int n) h = tt
-of-family Int8 (Int n) h = tt
-of-family TextType (Int (pos n)) h = none-below n (ltb-true n 0 h)
-of-family TextType (Int (negsuc n)) h = none-below n (ltb-true n 0 h)
-of-family BoolType (Int (pos n)) h = none-below n (ltb-true n 0 h)
-of-family BoolType (Int (negsuc n)) h = none-below n (ltb-true n 0 h)
-of-family BoolType (Flag b) h = tt
-of-family Int2 (Flag b) h = absurd h
-of-family Int4 (Flag b) h = absurd h
-of-family Int8 (Flag b) h = absurd h
-of-family TextType (Flag b) h = absurd h
-of-family TextType (String b) h = tt
-of-family Int2 (String b) h = absurd h
-of-family Int4 (String b) h = absurd h
-of-family Int8 (String b) h = absurd h
-of-family BoolType (String b) h = absurd h
+of-family t v h = type_fits (family t) t v (default_fits t (family t) (default-is t)) h
 
 ties-of : (t : SqlType) (d n : Bool) (v w : Value) → IsOfType t v → IsOfType t w → is_eq (column_order (family t) d n v w) ≡ same_value v w
 ties-of t d n v w h k = ap is_eq (sym (as-columns (family t) d n v w (not-by-magnitude t) (of-family t v h) (of-family t w k))) ∙ ties-anyway d n v w

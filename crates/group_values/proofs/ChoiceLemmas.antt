@@ -7,7 +7,7 @@ use Rattle.group_values.specs.declared.form.Form.{Form}
 use Rattle.group_values.specs.declared.form.Form.TheVariants.{Sorted, Hashed}
 use Rattle.group_values.specs.declared.task.GroupPlan.{GroupPlan}
 use Rattle.group_values.specs.declared.task.GroupTask.{GroupTask}
-use Rattle.group_values.specs.GroupCosts.{group_total, is_offered}
+use Rattle.group_values.specs.work.GroupCosts.{group_total, is_offered}
 use Rattle.group_values.specs.work.Choice.{HasAtMost, IsNoLess, IsPlanOver, candidate, input_of, lesser, plan_of}
 use Rattle.group_values.proofs.CostLemmas.{total-input, total-rises}
 

@@ -8,7 +8,8 @@ use Rattle.cost_rules.specs.Costs.{pair, sort_cost}
 use Rattle.cost_rules.proofs.RisingLemmas.{once-at_least, sort-child, sort-rises}
 use Rattle.group_values.specs.declared.form.Form.{Form}
 use Rattle.group_values.specs.declared.task.GroupTask.{GroupTask}
-use Rattle.group_values.specs.GroupCosts.{group_cost, group_total, groups_of, combinations, sorts_after}
+use Rattle.group_values.specs.GroupCosts.{combinations}
+use Rattle.group_values.specs.work.GroupCosts.{group_cost, group_total, groups_of, sorts_after}
 
 assoc : (g d p : ℕ) → g * d * p ≡ g * (d * p)
 assoc g d p = omega arith

@@ -4,8 +4,7 @@ ghost use Rattle.std.specs.Prelude.{◌≡◌, ◌<◌, ℕ, true, IfSome};
 ghost use Rattle.cost_rules.specs.declared.parameters.TheConstants.{MOST_COST};
 ghost use Rattle.group_values.specs.declared.form.Form.{Form as AnyForm};
 ghost use Rattle.group_values.specs.work.Choice.{HasAtMost, IsNoLess, IsPlanOver, candidate, input_of, lesser};
-ghost use Rattle.group_values.specs.GroupCosts.{group_total, is_offered};
-ghost use Rattle.group_values.specs.work.GroupCosts.{IsTask};
+ghost use Rattle.group_values.specs.work.GroupCosts.{IsTask, group_total, is_offered};
 
 use crate::Form;
 use crate::costs::{group_total, groups, sorts_after};

@@ -3,7 +3,7 @@
 ghost use Rattle.std.specs.Prelude.{◌≤◌, ℕ};
 ghost use Rattle.group_values.specs.declared.form.Form.{Form};
 ghost use Rattle.group_values.specs.declared.task.GroupTask.{GroupTask};
-ghost use Rattle.group_values.specs.GroupCosts.{group_total};
+ghost use Rattle.group_values.specs.work.GroupCosts.{group_total};
 
 /// A plan that groups costs no less than its input, and no less where its input does not: so of all inputs of a form the least
 /// one is enough.

@@ -3,8 +3,8 @@
 ghost use Rattle.std.specs.Prelude.{◌≡◌, ◌≤◌, ◌*◌, ◌^◌, min};
 ghost use Rattle.cost_rules.specs.work.Costs.{IsEstimate, capped};
 ghost use Rattle.cost_rules.specs.declared.parameters.TheConstants.{MOST_COST, MOST_ESTIMATE};
-ghost use Rattle.group_values.specs.GroupCosts.{group_cost, group_total, groups_of, combinations, row_tests, sorts_after};
-ghost use Rattle.group_values.specs.work.GroupCosts.{IsTask};
+ghost use Rattle.group_values.specs.GroupCosts.{combinations, row_tests};
+ghost use Rattle.group_values.specs.work.GroupCosts.{IsTask, group_cost, group_total, groups_of, sorts_after};
 
 use crate::Form;
 use crate::task::GroupTask;

@@ -12,7 +12,7 @@ use Rattle.sql_query.specs.Tuples.{Tuple}
 use Rattle.sql_query.specs.declared.window.Window.{Window}
 use Rattle.executor.specs.work.Reading.{Reading}
 use Rattle.reply.specs.work.Drawing.{Draws, drawn_by, past}
-use Rattle.reply.specs.Effort.{HasRisen, exactly, fetched_by, fetched_to, last_by, limit_in, looked_by, offset_in, through}
+use Rattle.reply.specs.Effort.{HasRisen, exactly, fetched_by, fetched_for_all, fetched_for_first, fetched_for_none, fetched_to, last_by, limit_in, looked_by, offset_in, through}
 
 module _ {A : Type 0} (test : A → Bool) where
   past_none : (n : ℕ) → past test n [] ≡ []
@@ -185,25 +185,25 @@ module _ (n : ℕ) (first now : Reading) (f f' : ℕ) (is : Draws n first now f 
   of_scan : first.one ≡ true → n ≤ length first.left → f' ≡ f + owed (through is_given n first.coming)
   of_scan is_one some = omega (arith, is.paced is_one, ap owed (is.coming some), owed_parts n first.coming)
 
-  whole_is : (b c : Bool) → nat_lt (length first.left) n ≡ b → first.one ≡ c → IfSome (cond b (Some first.owed) (cond c (Some (owed (through is_given n first.coming))) None)) (λ k. f' ≡ f + k)
-  whole_is true c few is_one = omega (arith, is.exact, is.ended (grind (arith, nat_tests)))
-  whole_is false true some is_one = of_scan is_one (grind (arith, nat_tests))
-  whole_is false false some is_one = tt
+  scan_is : (c : Bool) → first.one ≡ c → n ≤ length first.left → IfSome (cond c (Some (owed (through is_given n first.coming))) None) (λ k. f' ≡ f + k)
+  scan_is true is_one some = of_scan is_one some
+  scan_is false is_one some = tt
 
   pub risen_to : HasRisen (fetched_to n (length first.left) first.owed first.opening first.one first.coming) f f'
-  risen_to = by (nat_eq n 0) refl
+  risen_to = by (nat_eq n 0) (nat_lt (length first.left) n) refl refl
     where
-      whole : IfSome (cond (nat_lt (length first.left) n) (Some first.owed) (cond first.one (Some (owed (through is_given n first.coming))) None)) (λ k. f' ≡ f + k)
-      whole = whole_is (nat_lt (length first.left) n) first.one refl refl
-
-      by : (b : Bool) → nat_eq n 0 ≡ b →
-          HasRisen (cond b (exactly 0) (record { least = first.opening; most = first.owed; whole = cond (nat_lt (length first.left) n) (Some first.owed) (cond first.one (Some (owed (through is_given n first.coming))) None) })) f f'
-      by true e =
+      by : (a b : Bool) → nat_eq n 0 ≡ a → nat_lt (length first.left) n ≡ b →
+          HasRisen (cond a fetched_for_none (cond b (fetched_for_all first.owed) (fetched_for_first n first.owed first.opening first.one first.coming))) f f'
+      by true b e few =
           let same : f' ≡ f = (is.none (grind (arith, nat_tests))).1 in
           record { above = omega (arith, same); within = omega (arith, same); exact = omega (arith, same) }
-      by false e =
+      by false true e few =
+          let all : f' ≡ f + first.owed = omega (arith, is.exact, is.ended (grind (arith, nat_tests))) in
+          record { above = omega (arith, all); within = omega (arith, all); exact = all }
+      by false false e few =
           let some : 0 < n = grind (arith, nat_tests) in
-          record { above = is.opened some; within = omega (arith, is.exact); exact = whole }
+          let there : n ≤ length first.left = grind (arith, nat_tests) in
+          record { above = is.opened some; within = omega (arith, is.exact); exact = scan_is first.one refl there }
 
 -- without LIMIT all are drawn
 pub risen_all : (n : ℕ) (first now : Reading) (f f' : ℕ) → Draws n first now f f' → length first.left < n → HasRisen (exactly first.owed) f f'
@@ -221,17 +221,16 @@ risen_by (Some n) offset first mid now f f' f'' passed shown = risen_to (offset 
 pub few_by : (limit : Option ℕ) (offset : ℕ) (first : Reading) (f f' : ℕ) → f' ≤ f + first.owed → (limit ≡ Some 0 → offset ≡ 0 → f' ≡ f)
     → f' ≤ f + (fetched_by (last_by offset limit) (length first.left) first.owed first.opening first.one first.coming).most
 few_by None offset first f f' most none = most
-few_by (Some n) offset first f f' most none = by (nat_eq (offset + n) 0) refl
+few_by (Some n) offset first f f' most none = by (nat_eq (offset + n) 0) (nat_lt (length first.left) (offset + n)) refl
   where
-    whole : Option ℕ
-    whole = cond (nat_lt (length first.left) (offset + n)) (Some first.owed) (cond first.one (Some (owed (through is_given (offset + n) first.coming))) None)
-
-    by : (b : Bool) → nat_eq (offset + n) 0 ≡ b → f' ≤ f + (cond b (exactly 0) (record { least = first.opening; most = first.owed; whole = whole })).most
-    by true e =
+    by : (a b : Bool) → nat_eq (offset + n) 0 ≡ a
+        → f' ≤ f + (cond a fetched_for_none (cond b (fetched_for_all first.owed) (fetched_for_first (offset + n) first.owed first.opening first.one first.coming))).most
+    by true b e =
         let n_is : n ≡ 0 = grind (arith, nat_tests) in
         let offset_is : offset ≡ 0 = grind (arith, nat_tests) in
         omega (arith, none (ap (λ (k : ℕ). Some k) n_is) offset_is)
-    by false e = most
+    by false true e = most
+    by false false e = most
 
 pub looked_few : (limit : Option ℕ) (offset all shown l l' : ℕ) → l' ≤ l + (all + 32 * shown) → (limit ≡ Some 0 → offset ≡ 0 → l' ≡ l)
     → l' ≤ l + looked_by (last_by offset limit) all shown

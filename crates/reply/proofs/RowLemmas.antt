@@ -7,12 +7,17 @@ use Rattle.std.proofs.lemmas.List.FromFn.{get_or-map-range_with_len, length-map-
 use Rattle.std.proofs.lemmas.Option.{get_or_from_slice_get}
 use Rattle.pg_base.specs.declared.numbers.TableNo.{TableNo}
 use Rattle.pg_base.specs.declared.numbers.Tid.{Tid}
+use Rattle.pg_value.specs.declared.value.SqlType.{SqlType}
 use Rattle.pg_value.specs.declared.value.Value.{Value}
 use Rattle.pg_value.specs.declared.value.Value.TheVariants.{Null}
 use Rattle.pg_expr.specs.declared.operand.ColRef.{ColRef}
 use Rattle.heap.specs.Stored.{IsRowOf, IsColumnValue, Stored, Values}
+use Rattle.eq_classes.specs.work.Holding.{Fits}
+use Rattle.reply_text.specs.work.Printed.{ArePrintable}
+use Rattle.reply_text.proofs.PrintedLemmas.{fits-printable}
+use Rattle.reply.specs.Answers.{shown_types}
 use Rattle.catalog.specs.Contents.{Contents, IsTable, no_table, table_at}
-use Rattle.catalog.specs.Range.{Range, relation_at}
+use Rattle.catalog.specs.Range.{Range, relation_at, type_in}
 use Rattle.sort_rows.specs.work.Rows.{relation}
 use Rattle.sql_query.specs.Meaning.{shown}
 use Rattle.sql_query.specs.Queries.{Query, width}
@@ -128,3 +133,11 @@ module _ (c : Contents) (k : Kept) (q : Query) (t : Tuple) (bound : IsWellBound 
       → map (cell_of rows) xs ≡ shown (world c k.stored) q t
   shown_by rows xs same selected of =
       ap₂ (λ (l : List Values) (ys : List ColRef). map (cell_of l) ys) same selected ∙ values_in q.select of
+
+  -- the values that are shown can be printed by their columns' types
+  pub shown_printable : (rows : List Values) (xs : List ColRef) → rows ≡ rows_at (world c k.stored) q t → xs ≡ q.select → All (IsColumnOf c q.range) q.select
+      → (types : List SqlType) → types ≡ shown_types c q → Fits (type_in c q.range) (value_at (world c k.stored) q t) → ArePrintable types (map (cell_of rows) xs)
+  shown_printable rows xs same selected of types typed fits =
+      let P : List SqlType → Type 0 = λ ts. ArePrintable ts (map (cell_of rows) xs) in
+      let Q : List Value → Type 0 = λ vs. ArePrintable (shown_types c q) vs in
+      subst P (sym typed) (subst Q (sym (shown_by rows xs same selected of)) (fits-printable (type_in c q.range) (value_at (world c k.stored) q t) fits q.select))

@@ -1,7 +1,9 @@
 -- What a SELECT and its EXPLAIN print. Own.
-use Rattle.std.specs.Prelude.{ℕ, ◌≡◌, List, ◌++◌, length, IsPermutation}
+use Rattle.std.specs.Prelude.{ℕ, ◌≡◌, List, ◌++◌, length, map, IsPermutation}
 use Rattle.std.specs.List.{flat_map}
+use Rattle.pg_value.specs.declared.value.SqlType.{SqlType}
 use Rattle.catalog.specs.Contents.{Contents}
+use Rattle.catalog.specs.Range.{type_in}
 use Rattle.reply_text.specs.Texts.{row_line, count_line}
 use Rattle.sql_query.specs.Queries.{Query}
 use Rattle.sql_query.specs.Worlds.{World}
@@ -16,11 +18,15 @@ use Rattle.explain.specs.Texts.{explained_text}
 abbrev pub tuples_of : World → Query → Plan → List Tuple
 tuples_of w q p = run w q p (no_rows q)
 
--- a line for each tuple, of the values that it shows
-abbrev pub tuples_text : World → Query → List Tuple → List ℕ
-tuples_text w q ts = flat_map (λ t. row_line (shown w q t)) ts
+-- the types of the columns that are shown, from the left
+abbrev pub shown_types : Contents → Query → List SqlType
+shown_types c q = map (type_in c q.range) q.select
 
--- a line for each tuple, of the values that it shows, and the line of their number
+-- a line for each tuple, of the values that it shows, each as one of its column's type
+abbrev pub tuples_text : World → Query → List Tuple → List ℕ
+tuples_text w q ts = flat_map (λ t. row_line (shown_types w.contents q) (shown w q t)) ts
+
+-- a line for each tuple, and the line of their number
 abbrev pub result_text : World → Query → List Tuple → List ℕ
 result_text w q ts = tuples_text w q ts ++ count_line (length ts)
 

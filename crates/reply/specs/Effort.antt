@@ -55,17 +55,28 @@ last_by offset (Some limit) = Some (offset + limit)
 abbrev pub last_in : Option Window → Option ℕ
 last_in w = last_by (offset_in w) (limit_in w)
 
+-- no tuple is drawn: nothing is fetched
+abbrev pub fetched_for_none : Rise
+fetched_for_none = exactly 0
+
+-- a plan is drawn whole: its fetches in all
+abbrev pub fetched_for_all : ℕ → Rise
+fetched_for_all all = exactly all
+
+-- a plan is drawn up to its n-th tuple: one scan fetches the rows that it comes to up to and with the n-th that it gives; joins
+-- and sorts fetch no less than what comes before the first tuple, which is all that a sort fetches, and no more than in all
+abbrev pub fetched_for_first : ℕ → ℕ → ℕ → Bool → List Coming → Rise
+fetched_for_first n all opening scan rows = record { least = opening; most = all; whole = cond scan (Some (owed (through is_given n rows))) None }
+
 -- the fetches for tuples up to the n-th, of so many that a plan gives for so many fetches in all, so many of which come before
--- the first tuple. No tuple takes none; where the plan gives fewer than n, it is drawn whole; one scan fetches the rows that it
--- comes to up to and with the n-th that it gives; joins and sorts fetch no less than what comes before the first tuple, which
--- is all that a sort fetches, and no more than in all
+-- the first tuple: none for no tuple, and all where the plan gives fewer than n
 abbrev pub fetched_to : ℕ → ℕ → ℕ → ℕ → Bool → List Coming → Rise
 fetched_to n given all opening scan rows =
-    cond (nat_eq n 0) (exactly 0) (record { least = opening; most = all; whole = cond (nat_lt given n) (Some all) (cond scan (Some (owed (through is_given n rows))) None) })
+    cond (nat_eq n 0) fetched_for_none (cond (nat_lt given n) (fetched_for_all all) (fetched_for_first n all opening scan rows))
 
 -- the fetches for tuples up to the last one that is drawn: without LIMIT the plan is drawn whole
 abbrev pub fetched_by : Option ℕ → ℕ → ℕ → ℕ → Bool → List Coming → Rise
-fetched_by None given all opening scan rows = exactly all
+fetched_by None given all opening scan rows = fetched_for_all all
 fetched_by (Some n) given all opening scan rows = fetched_to n given all opening scan rows
 
 -- the most looks, of so many that the plan takes in all, with 32 for each tuple shown; no tuple drawn takes none

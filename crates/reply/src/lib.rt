@@ -11,6 +11,7 @@ mod rows;
 mod setting;
 mod shown;
 mod stop;
+mod types;
 
 pub use explain;
 pub use measuring::{Measured, measure};
@@ -22,3 +23,4 @@ pub use rows::rows_at;
 pub use setting::Setting;
 pub use shown::shown_text;
 pub use stop::{Broken, Stop};
+pub use types::type_of;

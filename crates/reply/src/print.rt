@@ -153,7 +153,7 @@ pub fn put_result<C: Counters, K: Sink>(
     ensures fewer { fetches.new ≤ fetches.old + (window_fetches at.now rows.old).most }
     ensures reads { reads.new ≤ reads.old + window_looks at.now rows.old }
 {
-    let mut page = Page::new(at.alloc, text)?;
+    let mut page = Page::new(at, text)?;
     let count = put_window(at, rows, out, &mut page, fetches, reads)?;
     let line = count_line(at.alloc, count)?;
     put(out, &mut page.pending, &line)?;

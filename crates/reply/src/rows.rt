@@ -2,6 +2,7 @@
 
 ghost use Rattle.std.specs.Prelude.{◌≡◌, ◌+◌, ◌*◌, ◌≤◌, All, IfOk, OnOk, Some, length, map};
 ghost use Rattle.reply_text.specs.Texts.{row_line};
+ghost use Rattle.reply_text.specs.work.Printed.{ArePrintable};
 ghost use Rattle.sql_query.specs.Queries.{width};
 ghost use Rattle.plan_tree.specs.Counts.{MOST_READS};
 ghost use Rattle.executor.specs.work.Numbers.{IsTupleOf, numbers};
@@ -9,7 +10,7 @@ ghost use Rattle.reply.specs.work.Drawing.{Draws, drawn_behind, drawn_by};
 ghost use Rattle.reply.specs.Effort.{HasRisen, limit_in, offset_in};
 ghost use Rattle.reply.specs.Putting.{HasWriteCause};
 ghost use Rattle.reply.specs.work.Putting.{Puts};
-ghost use Rattle.reply.specs.work.Settings.{IsSetting, let_through, line_shown, lines_shown, up_to_limit, window_fetches, window_looks, world_of};
+ghost use Rattle.reply.specs.work.Settings.{IsSetting, let_through, line_shown, lines_shown, types_shown, up_to_limit, window_fetches, window_looks, world_of};
 ghost use Rattle.reply.specs.work.Showing.{HasColumn, cell_of, rows_at};
 ghost use Rattle.reply.specs.declared.stop.Broken.TheVariants.{Write};
 
@@ -18,9 +19,11 @@ use crate::pending::{Page, put};
 use crate::setting::Setting;
 use crate::stop::Broken;
 use executor::Rows;
+use executor::plan_laws::values_fit_their_types;
 use heap::{Counters, Row, value_in};
 use pg_base::{Memory, Sink, Steps, Tid};
 use pg_expr::ColRef;
+use pg_value::SqlType;
 use reply_text::Lines;
 use sql_query::{Prepared, selected_columns};
 use std::alloc::{AllocError, Global};
@@ -37,6 +40,7 @@ pub(crate) fn put_window<C: Counters, K: Sink>(
 ) -> Result<u64, Broken>
     requires setting { IsSetting at.now }
     requires tuples { All (IsTupleOf (world_of at.now) at.now.q.now) rows.old.left }
+    requires types { page.old.types.items ≡ types_shown at.now }
     ensures puts { Puts (K.held out.old) (K.held out.new)
         page.old.pending.items page.new.pending.items result
         (lines_shown at.now (let_through at.now rows.old.left)) }
@@ -66,6 +70,7 @@ fn put_rows<C: Counters, K: Sink>(
 ) -> Result<u64, Broken>
     requires setting { IsSetting at.now }
     requires tuples { All (IsTupleOf (world_of at.now) at.now.q.now) rows.old.left }
+    requires types { page.old.types.items ≡ types_shown at.now }
     ensures puts { Puts (K.held out.old) (K.held out.new)
         page.old.pending.items page.new.pending.items result
         (lines_shown at.now (up_to_limit at.now rows.old.left)) }
@@ -112,32 +117,37 @@ fn put_row<C: Counters, K: Sink>(
 ) -> Result<(), Broken>
     requires setting { IsSetting at.now }
     requires tuple { IsTupleOf (world_of at.now) at.now.q.now (numbers tuple.now) }
+    requires types { page.old.types.items ≡ types_shown at.now }
     ensures puts { Puts (K.held out.old) (K.held out.new)
         page.old.pending.items page.new.pending.items result
         (line_shown at.now (numbers tuple.now)) }
     ensures cause { HasWriteCause Write (K.faults out.old) (K.faults out.new) result }
+    ensures kept { page.new.types.items ≡ page.old.types.items }
     ensures reads { reads.new ≤ reads.old + MOST_READS }
 {
-    let line = tuple_line(at, tuple, &mut page.lines, reads)?;
+    let line = tuple_line(at, tuple, &page.types, &mut page.lines, reads)?;
     put(out, &mut page.pending, line)
 }
 
-/// The line of the values that a tuple shows. Each relation's row is looked at once.
+/// The line of the values that a tuple shows, of these types. Each relation's row is looked at once.
 fn tuple_line<'a, C: Counters>(
     at: &Setting<C>,
     tuple: &[Tid],
+    types: &[SqlType],
     lines: &'a mut Lines,
     reads: &mut Steps<C::Looks>,
 ) -> Result<&'a [u8], Memory>
     requires setting { IsSetting at.now }
     requires tuple { IsTupleOf (world_of at.now) at.now.q.now (numbers tuple.now) }
+    requires types { types.now ≡ types_shown at.now }
     ensures line { IfOk result (λ line. line.now ≡ line_shown at.now (numbers tuple.now)) }
     ensures reads { reads.new ≤ reads.old + MOST_READS }
 {
     selected_columns();
+    values_fit_their_types();
     let rows = rows_at(at, tuple, reads)?;
     let q: &Prepared = at.q;
-    shown_line(at.alloc, q.select.items(), &rows, lines)
+    shown_line(at.alloc, q.select.items(), types, &rows, lines)
 }
 
 /// The rows of all relations at a tuple of row numbers, in FROM order, each looked at once. The error means out of memory.
@@ -162,21 +172,24 @@ pub fn rows_at<'a, C: Counters>(
     Ok(rows)
 }
 
-/// The line of the values of these columns in rows of all relations.
+/// The line of the values of these columns, of these types, in rows of all relations.
 fn shown_line<'a>(
     alloc: Global,
     columns: &[ColRef],
+    types: &[SqlType],
     rows: &[Row],
     lines: &'a mut Lines,
 ) -> Result<&'a [u8], Memory>
-    requires { All (HasColumn (map (λ r. r.now) rows.now)) columns.now }
+    requires there { All (HasColumn (map (λ r. r.now) rows.now)) columns.now }
+    requires printable { ArePrintable types.now
+        (map (cell_of (map (λ r. r.now) rows.now)) columns.now) }
     ensures { IfOk result (λ line.
-        line.now ≡ row_line (map (cell_of (map (λ r. r.now) rows.now)) columns.now)) }
+        line.now ≡ row_line types.now (map (cell_of (map (λ r. r.now) rows.now)) columns.now)) }
 {
     let mut values = Vec::new(alloc);
     for column in columns {
         let row = rows[column.rel.0 as usize];
         values.push(value_in(row, column.col))?;
     }
-    lines.line(&values)
+    lines.line(types, &values)
 }

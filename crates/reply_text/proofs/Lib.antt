@@ -1,3 +1,4 @@
 pub mod WriterLemmas
 pub mod PieceLaws
 pub mod LineLaws
+pub mod PrintedLemmas

@@ -2,13 +2,15 @@
 
 ghost use Rattle.std.specs.Prelude.{◌≡◌, IfOk, OnOk, Some, map};
 ghost use Rattle.csv.specs.Writing.{writer_setup, writer_under};
-ghost use Rattle.reply_text.specs.Texts.{field_text, row_line};
+ghost use Rattle.reply_text.specs.Texts.{field_text, number_text, row_line};
+ghost use Rattle.reply_text.specs.work.Printed.{ArePrintable, IsPrintable, IsPrintableNumber};
 ghost use Rattle.reply_text.specs.work.Writers.{HasField, HasNewText, IsBetween, row_writer};
 
+use civil::{date_text, numeric_text, timestamp_text, timestamptz_text};
 use csv::{Error, Writer, WriterBuilder};
 use itoa::Buffer;
 use pg_base::Memory;
-use pg_value::Value;
+use pg_value::{SqlType, Value};
 use std::alloc::{AllocError, Global};
 use std::io::Write;
 use std::marker::Model;
@@ -51,18 +53,20 @@ impl Lines {
         }
     }
 
-    /// The line of a row that shows these values, from the left, ended by LF. NULL is `\N`, a whole number is decimal,
-    /// a truth value is `t` or `f`, and a text is its bytes, quoted as CSV (RFC 4180) where it has a comma, a quote, CR
-    /// or LF, and where it is empty and alone. The only error is out of memory. Over a list of bytes the writer fails for
-    /// that alone, since a list takes every byte and rows may differ in length; that this is so is no clause of `csv`.
-    pub fn line(&mut self, values: &[&Value]) -> Result<&[u8], Memory>
-        ensures { IfOk result (λ line. line.now ≡ row_line (map (λ v. v.now) values.now)) }
+    /// The line of a row that shows these values, from the left, each by the type at its place, ended by LF. NULL is `\N`, a
+    /// whole number is decimal, a date, a timestamp or a numeric has the text that its type gives it, a truth value is `t` or
+    /// `f`, and a text is its bytes, quoted as CSV (RFC 4180) where it has a comma, a quote, CR or LF, and where it is empty
+    /// and alone. The only error is out of memory. Over a list of bytes the writer fails for that alone, since a list takes
+    /// every byte and rows may differ in length; that this is so is no clause of `csv`.
+    pub fn line(&mut self, types: &[SqlType], values: &[&Value]) -> Result<&[u8], Memory>
+        requires { ArePrintable types.now (map (λ v. v.now) values.now) }
+        ensures { IfOk result (λ line. line.now ≡ row_line types.now (map (λ v. v.now) values.now)) }
     {
         if self.writer.get_ref().len() >= MOST {
             begin_anew(self.alloc, &mut self.writer);
         }
         let start = self.writer.get_ref().len();
-        if write_row(&mut self.writer, values).is_err() {
+        if write_row(&mut self.writer, types, values).is_err() {
             begin_anew(self.alloc, &mut self.writer);
             return Err(AllocError);
         }
@@ -88,29 +92,54 @@ fn begin_anew(alloc: Global, writer: &mut Writer<Vec<u8>>)
     *writer = new_writer(alloc);
 }
 
-/// Writes the record of these values, and holds nothing of it back.
-fn write_row<W: Write + Drop>(writer: &mut Writer<W>, values: &[&Value]) -> Result<(), Error>
-    requires { IsBetween writer.old }
+/// Writes the record of these values, each by the type at its place, and holds nothing of it back.
+fn write_row<W: Write + Drop>(
+    writer: &mut Writer<W>,
+    types: &[SqlType],
+    values: &[&Value],
+) -> Result<(), Error>
+    requires between { IsBetween writer.old }
+    requires printable { ArePrintable types.now (map (λ v. v.now) values.now) }
     ensures between { OnOk result (IsBetween writer.new) }
     ensures text { OnOk result
-        (HasNewText W.contents writer.old writer.new (row_line (map (λ v. v.now) values.now))) }
+        (HasNewText W.contents writer.old writer.new (row_line types.now (map (λ v. v.now) values.now))) }
 {
-    for value in values {
-        write_value(writer, value)?;
+    for n in 0..values.len() {
+        write_value(writer, types[n], values[n])?;
     }
     writer.end_record()?;
     writer.flush()
 }
 
-/// Writes a value as one field more.
-fn write_value<W: Write + Drop>(writer: &mut Writer<W>, value: &Value) -> Result<(), Error>
-    requires { writer_setup writer.old ≡ row_writer }
-    ensures { OnOk result (HasField W.contents writer.old writer.new (field_text value.now)) }
+/// Writes a value of a type as one field more.
+fn write_value<W: Write + Drop>(
+    writer: &mut Writer<W>,
+    t: SqlType,
+    value: &Value,
+) -> Result<(), Error>
+    requires setup { writer_setup writer.old ≡ row_writer }
+    requires printable { IsPrintable t value.now }
+    ensures { OnOk result (HasField W.contents writer.old writer.new (field_text t value.now)) }
 {
     match value {
         Value::Null => writer.write_field(b"\\N"),
-        Value::Int(number) => writer.write_field(Buffer::new().format(*number).as_bytes()),
+        Value::Int(number) => write_number(writer, t, *number),
         Value::Bool(flag) => writer.write_field(if *flag { b"t" } else { b"f" }),
         Value::Text(text) => writer.write_field(text.items()),
+    }
+}
+
+/// Writes a whole number, as a value of a type, as one field more.
+fn write_number<W: Write + Drop>(writer: &mut Writer<W>, t: SqlType, n: i64) -> Result<(), Error>
+    requires setup { writer_setup writer.old ≡ row_writer }
+    requires printable { IsPrintableNumber t n }
+    ensures { OnOk result (HasField W.contents writer.old writer.new (number_text t n)) }
+{
+    match t {
+        SqlType::Date => writer.write_field(date_text(n).bytes()),
+        SqlType::Timestamp => writer.write_field(timestamp_text(n).bytes()),
+        SqlType::TimestampTz => writer.write_field(timestamptz_text(n).bytes()),
+        SqlType::Numeric { digits: _, scale } => writer.write_field(numeric_text(scale, n).bytes()),
+        _ => writer.write_field(Buffer::new().format(n).as_bytes()),
     }
 }

@@ -8,8 +8,10 @@ use Rattle.plan_tree.specs.work.Paths.{IsFinishedPath}
 use Rattle.plan_tree.specs.work.Views.{path}
 use Rattle.group_values.specs.declared.form.Form.{Form}
 use Rattle.group_values.specs.work.GroupCosts.{IsTask}
-use Rattle.group_explain.specs.GroupPlans.{IsLeastOf, IsTaskOf, input_query}
-use Rattle.group_explain.specs.Texts.{group_plan_text, group_query, lines_above}
+use Rattle.group_explain.specs.GroupPlans.{input_query}
+use Rattle.group_explain.specs.work.GroupPlans.{IsLeastOfTask, IsTaskOf}
+use Rattle.group_explain.specs.Texts.{group_query}
+use Rattle.group_explain.specs.work.Texts.{task_lines, task_text}
 use Rattle.group_explain.specs.declared.chosen.Chosen.{Chosen}
 
 -- a grouped query over another base
@@ -26,16 +28,16 @@ IsOverInput form first now = now ≡ over_base (input_base form first) first
 
 -- the lines above the input of the chosen plan
 abbrev pub chosen_lines : Contents → GroupedQuery → Chosen → Bool → List ℕ
-chosen_lines c g x sort_after = lines_above c g x.task x.plan (path x.input).tree sort_after
+chosen_lines c g x sort_after = task_lines c g x.task x.plan (path x.input).tree sort_after
 
 -- the text of the chosen plan
 abbrev pub chosen_text : Contents → GroupedQuery → Chosen → List ℕ
-chosen_text c g x = group_plan_text c g x.task x.plan (path x.input).tree
+chosen_text c g x = task_text c g x.task x.plan (path x.input).tree
 
 -- a plan that groups with its own cost, which no plan that groups undercuts, and the path of its input
 pub record IsChosen (c : Contents) (g : GroupedQuery) (x : Chosen) : Type 0 where
   pub task : IsTaskOf c (group_query g) x.task
-  pub least : IsLeastOf c (group_query g) x.task x.plan
+  pub least : IsLeastOfTask c (group_query g) x.task x.plan
   pub input : least.plan ≡ (path x.input).tree
   pub finished : IsFinishedPath c (input_base x.plan.form g) (path x.input)
 

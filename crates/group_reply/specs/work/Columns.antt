@@ -1,5 +1,5 @@
 -- The columns that are seen of a tuple where it is grouped, and their values in rows of all relations. Own.
-use Rattle.std.specs.Prelude.{List, Option, None, Some, All, map}
+use Rattle.std.specs.Prelude.{◌<◌, List, Option, None, Some, All, length, map}
 use Rattle.pg_value.specs.declared.value.Value.{Value}
 use Rattle.pg_value.specs.declared.value.Value.TheVariants.{Null}
 use Rattle.pg_expr.specs.declared.operand.ColRef.{ColRef}
@@ -7,6 +7,8 @@ use Rattle.heap.specs.Stored.{Values}
 use Rattle.catalog.specs.Contents.{Contents}
 use Rattle.catalog.specs.Range.{Range}
 use Rattle.sql_query.specs.Queries.{Query}
+use Rattle.sql_query.specs.declared.grouped.Item.{Item}
+use Rattle.sql_query.specs.declared.grouped.Item.TheVariants.{Key, Min, Max}
 use Rattle.sql_query.specs.Tuples.{Tuple}
 use Rattle.sql_query.specs.WellBound.{IsColumnOf}
 use Rattle.sql_query.specs.Worlds.{World}
@@ -19,6 +21,13 @@ use Rattle.group_reply.specs.declared.columns.Columns.{Columns}
 abbrev pub IsArgOf : Contents → Range → Option ColRef → Type 0
 IsArgOf c range None = Unit {0}
 IsArgOf c range (Some x) = IsColumnOf c range x
+
+-- the column of which an item shows a value, where it shows one, is there
+abbrev pub IsItemIn : Contents → Range → List ColRef → Item → Type 0
+IsItemIn c range keys (Key n) = n < length keys
+IsItemIn c range keys (Min x) = IsColumnOf c range x
+IsItemIn c range keys (Max x) = IsColumnOf c range x
+IsItemIn c range keys i = Unit {0}
 
 -- the GROUP BY columns and the columns of calls are there
 pub record AreSeenOf (c : Contents) (range : Range) (keys : List ColRef) (args : List (Option ColRef)) : Type 0 where

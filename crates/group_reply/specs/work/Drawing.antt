@@ -1,5 +1,5 @@
 -- What is drawn and printed of a grouped query whose base is in the order that the chosen input is asked in. Own.
-use Rattle.std.specs.Prelude.{◌≡◌, ◌+◌, ◌*◌, ◌^◌, ◌<◌, List, ◌++◌, length, map}
+use Rattle.std.specs.Prelude.{◌≡◌, ◌+◌, ◌*◌, ◌^◌, ◌<◌, All, List, ◌++◌, length, map}
 use Rattle.pg_value.specs.declared.value.Value.{Value}
 use Rattle.sql_query.specs.Grouped.{GroupedQuery}
 use Rattle.sql_query.specs.Queries.{Query}
@@ -18,11 +18,11 @@ use Rattle.group_values.specs.declared.task.GroupPlan.{GroupPlan}
 use Rattle.group_values.specs.declared.task.GroupTask.{GroupTask}
 use Rattle.group_runs.specs.Seen.{seen_of}
 use Rattle.group_query.specs.Shapes.{args_of, calls_of, shape_of}
-use Rattle.group_explain.specs.Texts.{group_plan_text}
+use Rattle.group_explain.specs.work.Texts.{task_text}
 use Rattle.group_explain.specs.reply_Effort.{exactly}
 use Rattle.group_explain.specs.reply_Replies.{Reply}
-use Rattle.group_reply.specs.work.Columns.{AreSeenOf}
-use Rattle.group_reply.specs.Replies.{lines_text}
+use Rattle.group_reply.specs.work.Columns.{AreSeenOf, IsItemIn}
+use Rattle.group_reply.specs.Replies.{item_types, lines_text}
 use Rattle.plan_tree.specs.work.Views.{path}
 use Rattle.group_explain.specs.declared.chosen.Chosen.{Chosen}
 
@@ -44,6 +44,7 @@ module _ (w : World) (q : Query) (g : GroupedQuery) where
   pub record IsInputFor (form : Form) (p : Plan) : Type 0 where
     pub finished : IsFinished w.contents q p
     pub seen : AreSeenOf w.contents q.range g.keys (args_of g.items)
+    pub items : All (IsItemIn w.contents q.range g.keys) g.items
     pub together : form ≡ Sorted → AreTogether (seen_all (drawn p))
     pub few_keys : length g.keys < 2 ^ 32
     pub few_calls : length (calls_of g.items) < 2 ^ 32
@@ -52,7 +53,7 @@ module _ (w : World) (q : Query) (g : GroupedQuery) where
   -- tuple
   abbrev pub drawn_reply : GroupTask → GroupPlan → Plan → Reply
   drawn_reply t chosen p = record {
-    bytes = group_plan_text w.contents g t chosen p ++ lines_text (final_lines g chosen (seen_all (drawn p)));
+    bytes = task_text w.contents g t chosen p ++ lines_text (item_types w.contents q.range g.keys g.items) (final_lines g chosen (seen_all (drawn p)));
     fetched = exactly (fetches w q p (no_rows q));
     looked = looks w q p (no_rows q) + MOST_READS * length (drawn p);
   }

@@ -5,7 +5,7 @@ use Rattle.group_values.specs.declared.form.Form.{Form}
 use Rattle.group_values.specs.declared.form.Form.TheVariants.{Sorted, Hashed}
 use Rattle.group_values.specs.declared.task.GroupPlan.{GroupPlan}
 use Rattle.group_values.specs.declared.task.GroupTask.{GroupTask}
-use Rattle.group_values.specs.GroupCosts.{group_total, groups_of, is_offered, sorts_after}
+use Rattle.group_values.specs.work.GroupCosts.{group_total, groups_of, is_offered, sorts_after}
 
 -- the input of a form, of one in no order and one in the order of the group keys
 abbrev pub input_of : {X : Type 0} → Form → Option X → Option X → Option X

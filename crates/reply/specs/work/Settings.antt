@@ -1,5 +1,6 @@
 -- A query over a store of its catalogue, whose reply is written. Own.
 use Rattle.std.specs.Prelude.{ℕ, List, length}
+use Rattle.pg_value.specs.declared.value.SqlType.{SqlType}
 use Rattle.reply_text.specs.Texts.{row_line}
 use Rattle.sql_query.specs.Meaning.{shown, up_to, windowed}
 use Rattle.sql_query.specs.Tuples.{Tuple}
@@ -7,7 +8,7 @@ use Rattle.sql_query.specs.WellBound.{IsWellBound}
 use Rattle.sql_query.specs.Worlds.{World, world}
 use Rattle.executor.specs.work.Reading.{Reading}
 use Rattle.executor.specs.store_work_Kept.{IsStoreOf}
-use Rattle.reply.specs.Answers.{result_text, tuples_text}
+use Rattle.reply.specs.Answers.{result_text, shown_types, tuples_text}
 use Rattle.reply.specs.Effort.{Rise, fetched_by, last_in, limit_in, looked_by}
 use Rattle.reply.specs.declared.setting.Setting.{Setting}
 
@@ -28,9 +29,13 @@ module _ {C F L : Type 0} (at : Setting C F L) where
   abbrev pub up_to_limit : List Tuple → List Tuple
   up_to_limit ts = up_to (limit_in at.q.now.window) ts
 
+  -- the types of the columns that are shown
+  abbrev pub types_shown : List SqlType
+  types_shown = shown_types at.cat.now at.q.now
+
   -- the line of a tuple, of the values that it shows
   abbrev pub line_shown : Tuple → List ℕ
-  line_shown t = row_line (shown (world_of at) at.q.now t)
+  line_shown t = row_line types_shown (shown (world_of at) at.q.now t)
 
   -- the lines of tuples
   abbrev pub lines_shown : List Tuple → List ℕ

@@ -10,6 +10,7 @@ use Rattle.pg_base.proofs.OptionLemmas.{on-err as on_err}
 use Rattle.group_explain.specs.reply_Settings.{world_of}
 use Rattle.group_reply.specs.work.Drawing.{drawn_reply, seen_all}
 use Rattle.group_reply.proofs.DrawnLemmas.{begun-drawing, begun-drawn, begun-none, replied-drawn}
+use Rattle.group_reply.proofs.PrintableLemmas.{lines-printable}
 use Rattle.group_reply.proofs.answer.answer_by.Goals as goal
 
 pub draw_lines-requires-clause-tuples : goal.draw_lines-requires-clause-tuples
@@ -22,6 +23,12 @@ pub draw_lines-requires-clause-together : goal.draw_lines-requires-clause-togeth
 draw_lines-requires-clause-together g c =
     let P : List Tuple → Type 0 = λ ts. c.args.chosen.now.plan.form ≡ Sorted → AreTogether (seen_all (world_of c.args.at.now) c.args.at.now.q.now c.args.g.now ts) in
     subst P (sym c.in_ok-rows.ensures.left) c.requires.input.together
+
+pub put_answer-requires-clause-printable : goal.put_answer-requires-clause-printable
+put_answer-requires-clause-printable g c =
+    lines-printable (world_of c.args.at.now) c.args.at.now.q.now c.args.g.now
+    (λ t. c.values_fit_their_types.ensures (world_of c.args.at.now) c.args.at.now.q.now t c.requires.setting.store.world)
+    c.args.chosen.now.plan c.in_ok-rows.rows.left c.items.result.now (c.items.ensures ∙ c.in_ok-lines.ensures.lines)
 
 pub returns-in_err-text-clause-err : goal.returns-in_err-text-clause-err
 returns-in_err-text-clause-err g c = λ asked over.

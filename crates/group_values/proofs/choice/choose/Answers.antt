@@ -1,6 +1,6 @@
 use Rattle.std.proofs.Common.{ap₂, sym, subst, ◌∙◌}
 use Rattle.std.specs.Prelude.{IfSome}
-use Rattle.group_values.specs.GroupCosts.{group_total}
+use Rattle.group_values.specs.work.GroupCosts.{group_total}
 use Rattle.group_values.specs.work.Choice.{HasAtMost, IsPlanOver, lesser}
 use Rattle.group_values.proofs.ChoiceLemmas.{chosen-least, chosen-over}
 use Rattle.group_values.proofs.choice.choose.Goals as goal

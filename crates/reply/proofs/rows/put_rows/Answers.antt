@@ -16,6 +16,7 @@ drawn-init g c = record {
   quiet = refl;
   idle = λ none. refl;
   tuples = c.requires.tuples;
+  types = c.requires.types;
 }
 
 pub returns-in_err-next-clause-puts : goal.returns-in_err-next-clause-puts
@@ -73,4 +74,5 @@ drawn-preserved g c =
       quiet = search (rules, c.in_ok-put_row-in-Some.ensures.cause);
       idle = λ none. absurd (omega (arith, none, c.in_ok-count-in-Some.ensures));
       tuples = rest_are w q (numbers c.items.result.now) c.next.new.self.left c.drawn.rows.left left c.drawn.invariant.tuples;
+      types = c.in_ok-put_row-in-Some.ensures.kept ∙ c.drawn.invariant.types;
     }

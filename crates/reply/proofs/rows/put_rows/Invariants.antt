@@ -2,7 +2,7 @@ use Rattle.std.proofs.Common.{◌≡◌, All, length}
 use Rattle.executor.specs.work.Numbers.{IsTupleOf}
 use Rattle.reply.specs.work.Drawing.{Draws}
 use Rattle.reply.specs.Effort.{limit_in}
-use Rattle.reply.specs.work.Settings.{world_of}
+use Rattle.reply.specs.work.Settings.{types_shown, world_of}
 use Rattle.reply.proofs.DrawingLemmas.{HasDrawn, IsWithin}
 use Rattle.reply.proofs.rows.put_rows.Given as goal
 
@@ -14,6 +14,7 @@ invariant-drawn g l = record {
   quiet : g.K.Sink.faults l.out ≡ g.K.Sink.faults l.fn.out;
   idle : l.count ≡ 0 → l.reads ≡ l.fn.reads;
   tuples : All (IsTupleOf (world_of l.at) l.at.q.now) l.rows.left;
+  types : l.page.types.items ≡ types_shown l.at;
 }
 
 abbrev pub decreases-drawn : goal.decreases-drawn

@@ -1,6 +1,7 @@
 pub mod Lines
 pub mod Parts
 pub mod ListLemmas
+pub mod TypeLemmas
 pub mod ColumnLemmas
 pub mod LiteralListLemmas
 pub mod ValueLemmas

@@ -12,8 +12,8 @@ use Rattle.pg_value.specs.declared.value.SqlType.{SqlType}
 use Rattle.sql_lex.specs.declared.tokens.Token.{Token}
 use Rattle.sql_lex.specs.Words.{AreWords}
 use Rattle.sql_grammar.specs.Terminals.{Terminal, Ident, token_of, t_name}
-use Rattle.sql_grammar.specs.Syntax.{Mark, Nulls, unwritten, not_null, nullable, ColDef, coldef, Statement, empty, create_table, create_index, query, copy, sizes, column_statistics, analyze, advise, check, use_plan, grouped}
-use Rattle.sql_grammar.specs.Words.{words_of, words_of_nulls, words_of_coldef, words_of_columns, words_of_ending}
+use Rattle.sql_grammar.specs.Syntax.{Mark, Nulls, TypeTree, ColDef, coldef, Statement, empty, create_table, create_index, query, copy, sizes, column_statistics, analyze, advise, check, use_plan, grouped}
+use Rattle.sql_grammar.specs.Words.{words_of, words_of_nulls, words_of_type, words_of_coldef, words_of_columns, words_of_ending}
 use Rattle.sql_grammar.specs.Faults.{bytes_of}
 use Rattle.sql_grammar.specs.work.Unique.{token_in}
 use Rattle.sql_grammar.proofs.ExprTrees.{tokens-are}
@@ -22,7 +22,7 @@ use Rattle.pg_base.specs.Names.{IsName}
 use Rattle.catalog.specs.Contents.{Contents, IsTable, IsLawful}
 use Rattle.catalog.specs.Tables.{table_named}
 use Rattle.ddl_reader.specs.declared.ddl.Read.{Read}
-use Rattle.ddl_reader.specs.Types.{type_named}
+use Rattle.ddl_reader.specs.Types.{type_bound}
 use Rattle.ddl_reader.specs.Columns.{Written, BoundColumn, defined_column, further, bound_column, bound_by, bound_all}
 use Rattle.ddl_reader.specs.Statistics.{commons_of, bounds_of}
 use Rattle.ddl_reader.specs.Tables.{Reading, data_for, table_reading, limited_columns, bound_table, data_for_named, data_after}
@@ -39,14 +39,14 @@ use Rattle.expr_reader.proofs.Named.{AreNamed, named-from}
 -- what bound columns have of those that are defined_column
 module _ {A : Type 0} (ours : BoundColumn → A) (theirs : Written → A)
     (alike : (w : Written) (t : SqlType) → ours (record { name = w.name; name_at = w.name_at; column = record { typed = t; not_null = w.not_null } }) ≡ theirs w) where
-  bound-alike : (w : Written) (b : BoundColumn) (o : Option SqlType) → bound_by o w ≡ Ok b → ours b ≡ theirs w
-  bound-alike w b None is = absurd (cc)
-  bound-alike w b (Some t) is =
+  bound-alike : (w : Written) (b : BoundColumn) (r : Result SqlType Fault) → bound_by r w ≡ Ok b → ours b ≡ theirs w
+  bound-alike w b (Err f) is = absurd (cc)
+  bound-alike w b (Ok t) is =
       let same : record { name = w.name; name_at = w.name_at; column = record { typed = t; not_null = w.not_null } } ≡ b = cc in
       sym (ap ours same) ∙ alike w t
 
   all-alike : (ws : List Written) (bs : List BoundColumn) → bound_all ws ≡ Ok bs → map ours bs ≡ map theirs ws
-  all-alike ws bs is = sym (each-same bound_column theirs ours (λ w b e. sym (bound-alike w b (type_named w.kind) e)) ws bs is)
+  all-alike ws bs is = sym (each-same bound_column theirs ours (λ w b e. sym (bound-alike w b (type_bound w.kind.at w.kind.word w.kind.numbers) e)) ws bs is)
 
 -- the names of bound columns and their places are those that are defined_column
 abbrev AreCalled : List Written → List BoundColumn → Type 0
@@ -79,16 +79,15 @@ holds-placed most (w ∷ ws) h = (
 
 -- holds of the columns that are defined_column
 module _ (Q : Ident → Type 0) where
-  after-nulls : (nulls : Nulls) (rest : List Terminal) → Holds Q (words_of_nulls nulls ++ rest) → Holds Q rest
-  after-nulls unwritten rest h = h
-  after-nulls (not_null a b) rest h = h.1.1
-  after-nulls (nullable a) rest h = h.1
+  holds-behind : (a b : List Terminal) → Holds Q (a ++ b) → Holds Q b
+  holds-behind [] b h = h
+  holds-behind (w ∷ a) b h = holds-behind a b h.1
 
-  columns-hold : {A : Type 0} (P : A → Type 0) (f : Written → A) → ((n k : Ident) (nulls : Nulls) → Q n → P (f (defined_column (coldef n k nulls)))) → (c : ColDef) (cs : List (Mark × ColDef)) (rest : List Terminal) →
+  columns-hold : {A : Type 0} (P : A → Type 0) (f : Written → A) → ((n : Ident) (k : TypeTree) (nulls : Nulls) → Q n → P (f (defined_column (coldef n k nulls)))) → (c : ColDef) (cs : List (Mark × ColDef)) (rest : List Terminal) →
       Holds Q (words_of_coldef c ++ (words_of_columns cs ++ rest)) → All P (map f (defined_column c ∷ further cs))
   columns-hold P f is (coldef n k nulls) [] rest h = All-cons P (f (defined_column (coldef n k nulls))) [] (is n k nulls (h.0 n refl)) (All-nil P)
   columns-hold P f is (coldef n k nulls) ((m, d) ∷ ds) rest h =
-      let later = after-nulls nulls _ h.1.1 in
+      let later = holds-behind (words_of_type k ++ words_of_nulls nulls) _ h.1 in
       All-cons P (f (defined_column (coldef n k nulls))) (map f (defined_column d ∷ further ds)) (is n k nulls (h.0 n refl))
       (columns-hold P f is d ds rest (subst (Holds Q) (append_assoc (words_of_coldef d) (words_of_columns ds) rest) later.1))
 

@@ -1,5 +1,5 @@
 -- The lines of a data block (PostgreSQL manual, COPY, CSV Format).
-use Rattle.std.specs.Prelude.{◌≡◌, ℕ, ◌+◌, Bool, false, true, ◌||◌, nat_eq, cond, List, [], ◌∷◌, ◌++◌, length, drop, All}
+use Rattle.std.specs.Prelude.{◌≡◌, ℕ, ◌+◌, Bool, false, true, ◌||◌, nat_eq, cond, List, [], ◌∷◌, ◌++◌, codes, length, drop, All}
 use Rattle.std.specs.Str.{bytes_eq}
 
 -- a byte before the first of some lines
@@ -14,7 +14,7 @@ lines_of (b ∷ bs) = cond (nat_eq b 10) ((b ∷ []) ∷ lines_of bs) (in_front 
 
 -- a line is exactly `\.`, not counting its LF nor a CR before that LF
 abbrev pub is_mark : List ℕ → Bool
-is_mark line = bytes_eq line (92 ∷ 46 ∷ 10 ∷ []) || bytes_eq line (92 ∷ 46 ∷ 13 ∷ 10 ∷ []) || bytes_eq line (92 ∷ 46 ∷ [])
+is_mark line = bytes_eq line (codes "\\.\n") || bytes_eq line (codes "\\.\r\n") || bytes_eq line (codes "\\.")
 
 -- none of these lines is `\.`
 abbrev pub HaveNoMark : List (List ℕ) → Type 0

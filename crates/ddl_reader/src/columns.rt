@@ -5,15 +5,15 @@ ghost use Rattle.sql_grammar.specs.Terminals.{Terminal};
 ghost use Rattle.sql_grammar.specs.Syntax.{ColDef};
 ghost use Rattle.sql_grammar.specs.Words.{words_of_nulls, words_of_coldef};
 ghost use Rattle.ddl_reader.specs.declared.columns.ColumnDef.{ColumnDef};
-ghost use Rattle.ddl_reader.specs.Columns.{refuses_null, defined_column, further, BoundColumn, bound_column, bound_all};
-ghost use Rattle.ddl_reader.specs.work.Columns.{written_column};
-ghost use Rattle.ddl_reader.specs.work.AsMeant.{ends_nulls, words_of_body, IsAsMeant, Tells, seen, AreColumnsMeant};
-ghost use Rattle.expr_reader.specs.work.Reading.{IfFirst, Yields, StandsList, IfList, LeavesRest};
+ghost use Rattle.ddl_reader.specs.Columns.{refuses_null, defined_column, further, BoundColumn, Kind, bound_column, bound_all};
+ghost use Rattle.ddl_reader.specs.work.Columns.{written_column, type_read as type_read_of};
+ghost use Rattle.ddl_reader.specs.work.AsMeant.{ends_column, ends_nulls, words_of_body, IsAsMeant, Tells, seen, AreColumnsMeant};
+ghost use Rattle.expr_reader.specs.work.Reading.{IfFirst, StandsFirst, Yields, StandsList, IfList, LeavesRest};
 
-use crate::types::type_named;
-use crate::words::{name, word_fault};
+use crate::types::{TypeRead, type_of, type_read};
+use crate::words::name;
 use expr_reader::{Cursor, Spelled};
-use pg_base::{Code, Refusal};
+use pg_base::Refusal;
 use pg_value::Column;
 use sql_grammar::{Symbol, Word};
 use std::alloc::Global;
@@ -42,13 +42,13 @@ fn not_null(from: &mut Cursor) -> bool
     false
 }
 
-/// The column of this name and of this type. An unknown type is refused (42704) at its name.
-fn bind(name: Spelled, kind: &Spelled, not_null: bool) -> Result<ColumnDef, Refusal>
-    ensures { Tells ColumnDef BoundColumn seen result (bound_column (written_column name kind.now not_null)) }
+/// The column of this name and of this type. An unknown type is refused (42704) at its first word, and a number that it does
+/// not take (22023) at the number.
+fn bind(name: Spelled, kind: TypeRead, not_null: bool) -> Result<ColumnDef, Refusal>
+    ensures { (k : Kind) → kind ≡ type_read_of k →
+        Tells ColumnDef BoundColumn seen result (bound_column (written_column name k not_null)) }
 {
-    let Some(typed) = type_named(kind.bytes.items()) else {
-        return Err(word_fault(Code::S8, kind.token));
-    };
+    let typed = type_of(kind)?;
     Ok(ColumnDef {
         name,
         column: Column { typed, not_null },
@@ -57,16 +57,16 @@ fn bind(name: Spelled, kind: &Spelled, not_null: bool) -> Result<ColumnDef, Refu
 
 /// The next column.
 fn one_column(alloc: Global, from: &mut Cursor) -> Result<ColumnDef, Refusal>
-    requires { (x : ColDef) × (rest : List Terminal) × (from.old ≡ words_of_coldef x ++ rest) }
-    ensures read { IfFirst words_of_coldef ends_nulls from.old
+    requires { StandsFirst words_of_coldef ends_column from.old }
+    ensures read { IfFirst words_of_coldef ends_column from.old
         (λ x rest. IsAsMeant ColumnDef BoundColumn seen result (bound_column (defined_column x))) }
-    ensures left { OnOk result (LeavesRest words_of_coldef ends_nulls from.old from.new) }
+    ensures left { OnOk result (LeavesRest words_of_coldef ends_column from.old from.new) }
     ensures ahead { OnOk result (length from.new ≤ length from.old) }
 {
     let title = name(alloc, from)?;
-    let kind = name(alloc, from)?;
+    let kind = type_read(alloc, from)?;
     let not_null = not_null(from);
-    bind(title, &kind, not_null)
+    bind(title, kind, not_null)
 }
 
 /// The columns up to `)`, which is left.

@@ -1,5 +1,5 @@
 -- What the words after an operand tell of the condition that begins with it.
-use Rattle.std.proofs.Common.{◌≡◌, Bool, true, false, List, [], ◌∷◌, ◌++◌, Result, Ok, Err, inl, inr, refl, sym, ap, ◌∙◌, append_assoc, codes}
+use Rattle.std.proofs.Common.{◌≡◌, ℕ, Bool, true, false, Option, List, [], ◌∷◌, ◌++◌, Result, Ok, Err, inl, inr, refl, sym, ap, ◌∙◌, append_assoc, codes}
 use Rattle.pg_base.specs.declared.faults.Fault.{Fault}
 use Rattle.pg_value.specs.declared.operators.Truth.{Truth}
 use Rattle.pg_value.specs.declared.value.SqlType.{SqlType}
@@ -12,7 +12,7 @@ use Rattle.sql_grammar.specs.declared.class.Word.TheVariants.{And, Is, Not, Null
 use Rattle.sql_grammar.specs.declared.class.Symbol.TheVariants.{Open, Close}
 use Rattle.sql_grammar.specs.declared.class.Free.TheVariants.{Between, In}
 use Rattle.sql_grammar.specs.Terminals.{Terminal, Said, free, t_name, t_key, t_mark, t_operator}
-use Rattle.sql_grammar.specs.Syntax.{Expr as ExprTree, Negated, no_not, not_before, in_list, between, Neg, negated, plain, Col, bare, qualified, yes, no, unknown, Lit, number, negative, quoted, constant, OperandTree, column, literal, Atom, parens, compare, is_null, is_not_null, column_alone, constant_alone}
+use Rattle.sql_grammar.specs.Syntax.{Expr as ExprTree, Negated, no_not, not_before, in_list, between, Neg, negated, plain, Col, bare, qualified, yes, no, unknown, Lit, number, negative, quoted, constant, OperandTree, column, literal, typed as named_text, Atom, parens, compare, is_null, is_not_null, column_alone, constant_alone}
 use Rattle.sql_grammar.specs.work.Unique.{ends_atom, is_parens, front, tail}
 use Rattle.sql_grammar.specs.Words.{words_of_expr, words_of_neg, words_of_atom, words_of_operand, words_of_col, words_of_negated, words_of_lit, words_of_bounds}
 use Rattle.sql_grammar.proofs.ExprTrees.{tested}
@@ -20,8 +20,8 @@ use Rattle.expr_reader.specs.declared.cursor.Operator.{Operator}
 use Rattle.expr_reader.specs.work.Reading.{BeginsNot, BeginsOperator, BeginsNoOperator, operator_said}
 use Rattle.expr_reader.specs.declared.written.Literal.{Literal}
 use Rattle.expr_reader.specs.declared.written.Literal.TheVariants.{Constant as ConstantOf}
-use Rattle.expr_reader.specs.declared.written.Side.TheVariants.{Column, Literal as LiteralSide}
-use Rattle.expr_reader.specs.Conditions.{next, then_parts, comparison, standing_for, negated_by, literals_after, equal_to, or_of, and_of, BoundSide, of_column, of_literal, side_of, column_of, place_of_col, compare_sides, flag_column, truth_of_constant, meaning_of_atom}
+use Rattle.expr_reader.specs.declared.written.Side.TheVariants.{Column, Literal as LiteralSide, Typed as TypedSide}
+use Rattle.expr_reader.specs.Conditions.{next, then_parts, comparison, standing_for, negated_by, literals_after, equal_to, or_of, and_of, BoundSide, of_column, of_literal, of_typed, side_of, column_of, place_of_col, compare_sides, flag_column, truth_of_constant, meaning_of_atom}
 use Rattle.expr_reader.specs.work.Reads.{seen_as}
 use Rattle.expr_reader.specs.Scope.{Scope}
 use Rattle.expr_reader.specs.work.Written.{side_read, literal_of, IsNullWords}
@@ -74,6 +74,7 @@ no-open (literal (number n)) x left t is = absurd (cc (is))
 no-open (literal (negative m n)) x left t is = absurd (cc (is))
 no-open (literal (quoted q)) x left t is = absurd (cc (is))
 no-open (literal (constant c k)) x left t is = absurd (cc (is))
+no-open (named_text n q) x left t is = absurd (cc (is))
 
 no-not-operand : (o : OperandTree) (x left : List Terminal) (t : Token) → words_of_operand o ++ x ≡ t_key Not t ∷ left → ⊥
 no-not-operand (column (bare n)) x left t is = absurd (cc (is))
@@ -84,6 +85,7 @@ no-not-operand (literal (quoted q)) x left t is = absurd (cc (is))
 no-not-operand (literal (constant yes k)) x left t is = absurd (cc (is))
 no-not-operand (literal (constant no k)) x left t is = absurd (cc (is))
 no-not-operand (literal (constant unknown k)) x left t is = absurd (cc (is))
+no-not-operand (named_text n q) x left t is = absurd (cc (is))
 
 no-not : (a : Atom) (rest left : List Terminal) (t : Token) → words_of_atom a ++ rest ≡ t_key Not t ∷ left → ⊥
 no-not (parens b e d) rest left t is = absurd (cc (is))
@@ -174,11 +176,13 @@ module _ (scope : Scope) (type_of : ColRef → SqlType) where
       (m ≡ Ok c) × (type_of c ≡ t) × (p ≡ token)
   column-by (Ok r) (of_column d u q) c t p token is read = let same : of_column r (type_of r) p ≡ of_column d u q = cc (is) in (cc (same, read), cc (same, read), cc (same, read))
   column-by (Ok r) (of_literal l) c t p token is read = absurd (cc (read))
+  column-by (Ok r) (of_typed n q) c t p token is read = absurd (cc (read))
   column-by (Err f) s c t p token is read = absurd (cc (is))
 
   no-literal : (s : BoundSide) (l : Lit) (c : ColRef) (t : SqlType) (token : Token) → sided l ≡ Ok s → Column c t token ≡ side_read s → ⊥
   no-literal (of_column d u q) l c t token is read = absurd (cc (is))
   no-literal (of_literal m) l c t token is read = absurd (cc (read))
+  no-literal (of_typed n q) l c t token is read = absurd (cc (read))
 
   -- a side of which nothing is left to find
   column-side : (col : Col) (s : BoundSide) (c : ColRef) (t : SqlType) (token : Token) → side_of scope type_of (column col) ≡ Ok s → Column c t token ≡ side_read s → IsColumn col c t token
@@ -214,10 +218,12 @@ module _ (scope : Scope) (type_of : ColRef → SqlType) where
   pub no-column : (m : Result ColRef Fault) (s : BoundSide) (p : Token) (l : Literal) → next m (λ r. Ok (of_column r (type_of r) p)) ≡ Ok s → LiteralSide l ≡ side_read s → ⊥
   no-column (Ok r) (of_column d u q) p l is read = absurd (cc (read))
   no-column (Ok r) (of_literal m) p l is read = absurd (cc (is))
+  no-column (Ok r) (of_typed n q) p l is read = absurd (cc (is))
   no-column (Err f) s p l is read = absurd (cc (is))
 
   lit-by : (l : Lit) (x : Literal) (s : BoundSide) → sided l ≡ Ok s → LiteralSide x ≡ side_read s → x ≡ literal_of l
   lit-by l x (of_column d u q) is read = absurd (cc (is))
+  lit-by l x (of_typed n q) is read = absurd (cc (is))
   lit-by l x (of_literal m) is read = let same : l ≡ m = cc (is) in let lit : x ≡ literal_of m = cc (read) in lit ∙ sym (ap literal_of same)
 
   -- TRUE, FALSE or NULL by itself
@@ -240,6 +246,30 @@ module _ (scope : Scope) (type_of : ColRef → SqlType) where
   constant-atom (column_alone col) s rest old x flat side read is none lists = absurd (no-column (column_of scope col) s (place_of_col col) x side read)
   constant-atom (constant_alone k d) s rest old x flat side read is none lists =
       record { truth = truth_of_constant k; token = d; literal = lit-by (constant k d) x s side read; meant = refl; words = is }
+
+  -- a type's name and a text are no condition by themselves
+  pub no-typed-column : (m : Result ColRef Fault) (s : BoundSide) (p : Token) (t : Option SqlType) (token : Token) (text : List ℕ) → next m (λ r. Ok (of_column r (type_of r) p)) ≡ Ok s → TypedSide t token text ≡ side_read s → ⊥
+  no-typed-column (Ok r) (of_column d u q) p t token text is read = absurd (cc (read))
+  no-typed-column (Ok r) (of_literal m) p t token text is read = absurd (cc (is))
+  no-typed-column (Ok r) (of_typed n q) p t token text is read = absurd (cc (is))
+  no-typed-column (Err f) s p t token text is read = absurd (cc (is))
+
+  no-typed-literal : (l : Lit) (s : BoundSide) (t : Option SqlType) (token : Token) (text : List ℕ) → sided l ≡ Ok s → TypedSide t token text ≡ side_read s → ⊥
+  no-typed-literal l (of_column d u q) t token text is read = absurd (cc (is))
+  no-typed-literal l (of_literal m) t token text is read = absurd (cc (read))
+  no-typed-literal l (of_typed n q) t token text is read = absurd (cc (is))
+
+  pub no-typed : (a : Atom) (s : BoundSide) (rest old : List Terminal) (t : Option SqlType) (token : Token) (text : List ℕ) → is_parens a ≡ false →
+      side_of scope type_of (front a) ≡ Ok s → TypedSide t token text ≡ side_read s → old ≡ tail a rest → BeginsNoOperator old → NoList old → ⊥
+  no-typed (parens b e d) s rest old t token text flat side read is none lists = absurd (cc (flat))
+  no-typed (compare l op u) s rest old t token text flat side read is none lists = none op (words_of_operand u ++ rest) is
+  no-typed (is_null col i k) s rest old t token text flat side read is none lists = no-typed-column (column_of scope col) s (place_of_col col) t token text side read
+  no-typed (is_not_null col i n k) s rest old t token text flat side read is none lists = no-typed-column (column_of scope col) s (place_of_col col) t token text side read
+  no-typed (in_list u col n w p l ls m) s rest old t token text flat side read is none lists = no-typed-column (column_of scope col) s (place_of_col col) t token text side read
+  no-typed (between u l no_not w a j b) s rest old t token text flat side read is none lists = lists.between _ (w, is)
+  no-typed (between u l (not_before k) w a j b) s rest old t token text flat side read is none lists = lists.negated _ (k, is)
+  no-typed (column_alone col) s rest old t token text flat side read is none lists = no-typed-column (column_of scope col) s (place_of_col col) t token text side read
+  no-typed (constant_alone k d) s rest old t token text flat side read is none lists = no-typed-literal (constant k d) s t token text side read
 
   column-fault : (m : Result ColRef Fault) (f : Fault) (p : Token) → next m (λ r. Ok (of_column r (type_of r) p)) ≡ Err f → m ≡ Err f
   column-fault (Ok r) f p is = absurd (cc (is))

@@ -7,6 +7,7 @@ pub mod AtomLemmas
 pub mod ListLemmas
 pub mod CountLemmas
 pub mod EndLemmas
+pub mod ValueLemmas
 pub mod TypedLemmas
 pub mod StepLemmas
 pub mod PartedLemmas

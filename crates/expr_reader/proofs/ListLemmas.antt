@@ -18,11 +18,11 @@ use Rattle.expr_reader.specs.declared.written.Literal.{Literal}
 use Rattle.expr_reader.specs.declared.written.Side.{Side as SideRead}
 use Rattle.expr_reader.specs.declared.written.Side.TheVariants.{Column, Literal as LiteralSide}
 use Rattle.expr_reader.specs.work.Reading.{Begins, BeginsNot, BeginsNoOperator, free_name}
-use Rattle.expr_reader.specs.Conditions.{next, then_parts, standing_for, negated_by, literals_after, equal_to, bounded_by, comparison, or_of, and_of, BoundSide, of_column, of_literal, side_of, compare_sides, meaning_of_atom}
+use Rattle.expr_reader.specs.Conditions.{next, then_parts, standing_for, negated_by, literals_after, equal_to, bounded_by, comparison, or_of, and_of, BoundSide, of_column, of_literal, of_typed, side_of, compare_sides, meaning_of_atom}
 use Rattle.expr_reader.specs.work.Expressions.{against, each_equal}
 use Rattle.expr_reader.specs.Scope.{Scope}
 use Rattle.expr_reader.specs.work.Written.{literal_of, side_read}
-use Rattle.expr_reader.proofs.AtomLemmas.{NoList, no-column}
+use Rattle.expr_reader.proofs.AtomLemmas.{NoList, no-column, no-typed-column}
 use Rattle.expr_reader.proofs.PartLemmas.{after, first-ready, first-fault, more-ready, no-more}
 
 -- the AND of two parts
@@ -241,6 +241,7 @@ module _ (scope : Scope) (type_of : ColRef → SqlType) where
   pub listed-side : (s : BoundSide) (c : ColRef) (t : SqlType) (first : Token) → Column c t first ≡ side_read s → s ≡ of_column c t first
   listed-side (of_column d u q) c t first is = cc (is)
   listed-side (of_literal l) c t first is = absurd (cc (is))
+  listed-side (of_typed n q) c t first is = absurd (cc (is))
 
   literal-by : (c : Col) (s : BoundSide) (x : Literal) → side_of scope type_of (column c) ≡ Ok s → LiteralSide x ≡ side_read s → ⊥
   literal-by c s x side read = no-column scope type_of _ s _ x side read
@@ -253,6 +254,7 @@ module _ (scope : Scope) (type_of : ColRef → SqlType) where
   pub listed-read : (s : BoundSide) (left : SideRead) (col : Col) → side_of scope type_of (column col) ≡ Ok s → left ≡ side_read s → ((c : ColRef) (t : SqlType) (first : Token) → ¬ (left ≡ Column c t first)) → ⊥
   listed-read (of_column c t first) left col side read none = none c t first read
   listed-read (of_literal m) left col side read none = literal-by col (of_literal m) (literal_of m) side refl
+  listed-read (of_typed n q) left col side read none = no-typed-column scope type_of _ (of_typed n q) _ _ _ _ side refl
 
   -- neither IN nor BETWEEN is there, and so no NOT
   pub record IsNoList (old mid : List Terminal) : Type 0 where

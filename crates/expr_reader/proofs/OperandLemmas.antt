@@ -1,18 +1,21 @@
 -- What the next words tell of the operand whose words are left.
-use Rattle.std.proofs.Common.{◌≡◌, ℕ, List, ◌∷◌, ◌++◌, Result, Ok, Err, None, refl, sym, ap, ◌∙◌}
+use Rattle.std.proofs.Common.{◌≡◌, ℕ, true, List, ◌∷◌, ◌++◌, drop, Result, Ok, Err, None, refl, sym, ap, ◌∙◌}
 use Rattle.pg_base.specs.declared.faults.Fault.{Fault}
 use Rattle.pg_value.specs.declared.value.SqlType.{SqlType}
 use Rattle.pg_expr.specs.declared.operand.ColRef.{ColRef}
 use Rattle.sql_lex.specs.declared.tokens.Token.{Token}
 use Rattle.sql_grammar.specs.declared.class.Symbol.TheVariants.{Dot}
 use Rattle.sql_grammar.specs.Faults.{bytes_of}
-use Rattle.sql_grammar.specs.Terminals.{Terminal, Ident, t_mark, t_name, token_of}
-use Rattle.sql_grammar.specs.Syntax.{Col, bare, qualified, OperandTree, column}
-use Rattle.sql_grammar.specs.work.Unique.{token_in}
-use Rattle.sql_grammar.specs.Words.{words_of_col}
+use Rattle.sql_grammar.specs.Terminals.{Terminal, Ident, Said, t_mark, t_name, t_quoted, token_of}
+use Rattle.sql_grammar.specs.declared.class.Class.TheVariants.{Quoted as ClassQuoted}
+use Rattle.sql_grammar.specs.work.Terminals.{class_of}
+use Rattle.sql_grammar.specs.Syntax.{Col, bare, qualified, number, negative, quoted, constant, OperandTree, column, literal, typed as named_text}
+use Rattle.sql_grammar.specs.work.Unique.{ends_col, ends_operand, token_in}
+use Rattle.sql_grammar.specs.Words.{words_of_col, words_of_operand}
+use Rattle.sql_grammar.proofs.ExprTrees.{tested}
 use Rattle.expr_reader.specs.declared.cursor.Spelled.{Spelled}
 use Rattle.expr_reader.specs.Reading.{spelled}
-use Rattle.expr_reader.specs.work.Reading.{BeginsName, BeginsNot}
+use Rattle.expr_reader.specs.work.Reading.{BeginsName, BeginsNot, BeginsNoQuoted, IsNextClass}
 use Rattle.expr_reader.specs.declared.found.Found.{Found}
 use Rattle.expr_reader.specs.declared.found.Found.TheVariants.{One, NoTable, NoColumn, Many}
 use Rattle.expr_reader.specs.declared.written.Side.{Side}
@@ -36,6 +39,50 @@ bare-col (bare n) rest old left s (m, says, first) absent is =
 bare-col (qualified q d n) rest old left s (m, says, first) absent is =
     let same : t_name m ∷ left ≡ t_name q ∷ t_mark Dot d ∷ t_name n ∷ rest = sym first ∙ is in
     absurd (absent (t_name n ∷ rest) (d, cc (same)))
+
+-- a name and a quoted text behind it are one operand
+pub record TypedNext (o : OperandTree) (rest old : List Terminal) : Type 0 where
+  pub name : Ident
+  pub text : Said
+  pub operand : o ≡ named_text name text
+  pub words : old ≡ t_name name ∷ t_quoted text ∷ rest
+
+quoted-word : (w : Terminal) → class_of w ≡ ClassQuoted → (q : Said) × (w ≡ t_quoted q)
+quoted-word (t_quoted q) is = (q, refl)
+quoted-word w is = absurd (cc (is))
+
+quoted-first : (q : Said) (left rest : List Terminal) → rest ≡ t_quoted q ∷ left → ends_operand rest ≡ true → ⊥
+quoted-first q left rest is ends = tested ends_operand rest (t_quoted q ∷ left) ends refl is
+
+typed-by : (o : OperandTree) (rest old left : List Terminal) (q : Said) → ends_operand rest ≡ true → old ≡ words_of_operand o ++ rest → drop 1 old ≡ t_quoted q ∷ left → TypedNext o rest old
+typed-by (named_text n t) rest old left q ends is behind = record { name = n; text = t; operand = refl; words = is }
+typed-by (column (bare n)) rest old left q ends is behind = absurd (quoted-first q left rest (sym (ap (drop 1) is) ∙ behind) ends)
+typed-by (column (qualified a d n)) rest old left q ends is behind = let wrong = sym (ap (drop 1) is) ∙ behind in absurd (cc (wrong))
+typed-by (literal (number n)) rest old left q ends is behind = absurd (quoted-first q left rest (sym (ap (drop 1) is) ∙ behind) ends)
+typed-by (literal (negative m n)) rest old left q ends is behind = let wrong = sym (ap (drop 1) is) ∙ behind in absurd (cc (wrong))
+typed-by (literal (quoted t)) rest old left q ends is behind = absurd (quoted-first q left rest (sym (ap (drop 1) is) ∙ behind) ends)
+typed-by (literal (constant c k)) rest old left q ends is behind = absurd (quoted-first q left rest (sym (ap (drop 1) is) ∙ behind) ends)
+
+pub typed-next : (o : OperandTree) (rest old : List Terminal) → ends_operand rest ≡ true → old ≡ words_of_operand o ++ rest → IsNextClass ClassQuoted (drop 1 old) → TypedNext o rest old
+typed-next o rest old ends is (w, left, class, behind) = let (q, word) = quoted-word w class in typed-by o rest old left q ends is (behind ∙ ap (λ x. x ∷ left) word)
+
+-- a name and no quoted text behind it are a column
+pub record ColumnNext (o : OperandTree) (rest old : List Terminal) : Type 0 where
+  pub col : Col
+  pub operand : o ≡ column col
+  pub words : old ≡ words_of_col col ++ rest
+
+pub column-next : (o : OperandTree) (rest old left : List Terminal) (n : Ident) → old ≡ words_of_operand o ++ rest → old ≡ t_name n ∷ left → BeginsNoQuoted (drop 1 old) → ColumnNext o rest old
+column-next (column c) rest old left n is first none = record { col = c; operand = refl; words = is }
+column-next (named_text m q) rest old left n is first none = absurd (none q.value q.token rest (ap (drop 1) is))
+column-next (literal (number m)) rest old left n is first none = absurd (cc (is, first))
+column-next (literal (negative d m)) rest old left n is first none = absurd (cc (is, first))
+column-next (literal (quoted q)) rest old left n is first none = absurd (cc (is, first))
+column-next (literal (constant c k)) rest old left n is first none = absurd (cc (is, first))
+
+pub col-end : (rest : List Terminal) → ends_operand rest ≡ true → ends_col rest ≡ true
+col-end (t_mark Dot _ ∷ _) ends = ends
+col-end _ ends = refl
 
 -- the column of a bare name
 pub bare-column : (scope : Scope) (c : Col) (n : Ident) (s : Spelled) (f : Found) (bytes : List ℕ) → c ≡ bare n → s ≡ spelled n → f ≡ look_up scope None bytes → bytes ≡ s.bytes →

@@ -62,8 +62,8 @@ operated-parted (Some op) token t u x y = compared-parted (does_exist op t u) op
 
 sides-parted : (op : Said) (a b : BoundSide) → IsParted (compare_sides op a b)
 sides-parted op a b =
-    let t = type_beside (own_type a) (own_type b) in
-    let u = type_beside (own_type b) (own_type a) in
+    let t = type_beside a (own_type b) in
+    let u = type_beside b (own_type a) in
     next-parted (operand_of t a) _ (λ x. next-parted (operand_of u b) _ (λ y. operated-parted (operator_of op.value) op.token t u x y))
 
 negated-parted : (n : Negated) (c : Cond) → HasParts c → HasParts (negated_by n c)
@@ -84,10 +84,7 @@ and-negated n (Err f) ms h hs = tt
 
 flag-parted : (t : SqlType) (r : ColRef) (token : Token) → IsParted (flag_column t r token)
 flag-parted types.Bool r token = tt
-flag-parted types.Int2 r token = tt
-flag-parted types.Int4 r token = tt
-flag-parted types.Int8 r token = tt
-flag-parted types.Text r token = tt
+flag-parted t r token = tt
 
 module _ (scope : Scope) (type_of : ColRef → SqlType) where
   comparison-parted : (l : OperandTree) (op : Said) (r : OperandTree) → IsParted (comparison scope type_of l op r)

@@ -1,109 +1,93 @@
 -- What a condition means is well typed, and names visible columns alone.
-use Rattle.std.proofs.Common.{◌≡◌, ℕ, Bool, true, false, ◌&&◌, ◌||◌, Option, Some, None, Result, Ok, Err, All, refl, sym, ap, subst, ◌∙◌, cond, is_some, List, [], ◌∷◌, codes}
-use Rattle.std.proofs.lemmas.Bool.{and_parts}
+use Rattle.std.proofs.Common.{◌≡◌, ◌+◌, ◌<◌, ℕ, Bool, true, false, not, ◌&&◌, ◌||◌, Option, Some, None, Result, Ok, Err, All, refl, sym, ap, subst, ◌∙◌, cond, is_some, List, [], ◌∷◌, codes, arith}
+use Rattle.std.specs.Prelude.{nat_eq}
+use Rattle.std.specs.List.{list_any}
+use Rattle.std.proofs.lemmas.Bool.{and_parts, true≢false}
+use Rattle.std.proofs.lemmas.Bool.Decides.{Decides-eqb}
+use Rattle.pg_base.specs.declared.faults.Code.TheVariants.{S9}
 use Rattle.pg_base.specs.declared.faults.Fault.{Fault}
 use Rattle.pg_value.specs.declared.operators.Family.{Family}
 use Rattle.pg_value.specs.declared.operators.Family.TheVariants as families
 use Rattle.pg_value.specs.declared.operators.Op.{Op}
-use Rattle.pg_value.specs.declared.operators.Op.TheVariants.{Lt, Le, Eq, Ge, Gt, Ne, AbsLt, AbsLe, AbsEq, AbsGe, AbsGt}
+use Rattle.pg_value.specs.declared.operators.Op.TheVariants.{Eq, Ne}
 use Rattle.pg_value.specs.declared.value.SqlType.{SqlType}
 use Rattle.pg_value.specs.declared.value.SqlType.TheVariants as types
 use Rattle.pg_value.specs.declared.value.Value.{Value}
 use Rattle.pg_value.specs.declared.value.Value.TheVariants as values
 use Rattle.pg_value.specs.Truths.{AreComparable, HasOp, IsSameKind, is_absolute}
+use Rattle.pg_value.specs.Types.{IsOfType}
 use Rattle.opfamily.specs.declared.classes.Method.TheVariants.{Btree}
-use Rattle.std.specs.Prelude.{ℤ}
-use Rattle.pg_base.specs.declared.faults.Code.TheVariants.{S9}
-use Rattle.pg_value.specs.declared.fields.FieldFault.TheVariants.{Range}
-use Rattle.pg_value.specs.Fields.{ranged, flagged, field_value, flag_of, number_of, word_of}
-use Rattle.pg_value.specs.Types.{in_range}
+use Rattle.opfamily.specs.Table.{Row, table}
+use Rattle.opfamily.specs.Answers.{does_exist, some_family_has, family_has, takes, number_in, type_scale}
+use Rattle.opfamily.proofs.ClassLemmas.{numeric-takes}
+use Rattle.opfamily.proofs.TableLemmas.{every_pair, implied}
 use Rattle.pg_expr.specs.declared.operand.ColRef.{ColRef}
 use Rattle.pg_expr.specs.declared.operand.Operand.{Operand}
 use Rattle.pg_expr.specs.declared.operand.Operand.TheVariants.{Col as col_operand, Lit as lit_operand}
 use Rattle.pg_expr.specs.Columns.{each_column, each_column_of, passes_column}
 use Rattle.pg_expr.specs.Cond.{Cond, compare, is_null as null_test, is_not_null as not_null_test, bool_col, const, negation, Conds, no_conds, cond_and}
 use Rattle.pg_expr.specs.Truths.{value_of}
-use Rattle.pg_expr.specs.Typed.{some_value, IsTyped, AreTyped}
+use Rattle.pg_expr.specs.Typed.{some_value, type_kind, AreAlike, IsInteger, IsComparison, IsTyped, AreTyped}
+use Rattle.pg_expr.proofs.DefinedLaws.{IsLike, like_type}
 use Rattle.sql_lex.specs.declared.tokens.Token.{Token}
 use Rattle.sql_grammar.specs.Terminals.{Said, token_of}
 use Rattle.sql_grammar.specs.Faults.{bytes_of, fault_at}
-use Rattle.sql_grammar.specs.Syntax.{Col, bare, qualified, yes, no, unknown, Lit, number, negative, quoted, constant, OperandTree, column, literal, Expr, either_of, Ors, no_or, or_conj, Conj, both_of, Ands, no_and, and_neg, Negated, no_not, not_before, Neg, negated, plain, Atom, parens, compare as compareTree, is_null, is_not_null, in_list, between, column_alone, constant_alone}
+use Rattle.sql_grammar.specs.Syntax.{Col, bare, qualified, Lit, OperandTree, column, literal, typed as named_text, Expr, either_of, Ors, no_or, or_conj, Conj, both_of, Ands, no_and, and_neg, Negated, no_not, not_before, Neg, negated, plain, Atom, parens, compare as compareTree, is_null, is_not_null, in_list, between, column_alone, constant_alone}
 use Rattle.expr_reader.specs.Operators.{operator_of}
 use Rattle.expr_reader.specs.declared.found.Found.{Found}
 use Rattle.expr_reader.specs.declared.found.Found.TheVariants.{One, NoTable, NoColumn, Many}
 use Rattle.expr_reader.specs.Scope.{Scope, look_up}
-use Rattle.expr_reader.specs.Literals.{value_or_fault, written, type_of_lit, literal_value}
-use Rattle.expr_reader.specs.Conditions.{next, comparison, standing_for, negated_by, literals_after, equal_to, bounded_by, the_column, column_of, place_of_col, BoundSide, of_column, of_literal, own_type, type_beside, operand_of, operated, compare_sides, flag_column, truth_of_constant, then_parts, or_of, and_of, side_of, meaning_of_expr, meaning_of_ors, meaning_of_conj, meaning_of_ands, meaning_of_neg, meaning_of_atom}
+use Rattle.expr_reader.specs.Literals.{literal_value, named_value}
+use Rattle.expr_reader.specs.Types.{type_named}
+use Rattle.expr_reader.specs.Conditions.{next, comparison, standing_for, negated_by, literals_after, equal_to, bounded_by, the_column, column_of, place_of_col, BoundSide, of_column, of_literal, of_typed, own_type, type_or, type_beside, operand_of, operated, compare_sides, flag_column, truth_of_constant, then_parts, or_of, and_of, side_of, meaning_of_expr, meaning_of_ors, meaning_of_conj, meaning_of_ands, meaning_of_neg, meaning_of_atom}
 use Rattle.expr_reader.proofs.ScopeLemmas.{found-all}
-use Rattle.opfamily.specs.Answers.{does_exist, some_family_has, family_has, takes, number_in}
+use Rattle.expr_reader.proofs.ValueLemmas.{literal-typed, named-typed}
 
--- the kind of a type's values: whole numbers, texts or truth values
-abbrev pub kind : SqlType → ℕ
-kind types.Int2 = 0
-kind types.Int4 = 0
-kind types.Int8 = 0
-kind types.Text = 1
-kind types.Bool = 2
-
+-- the kind of a family's types
 abbrev family_kind : Family → ℕ
 family_kind families.Integer = 0
 family_kind families.IntAbs = 0
 family_kind families.Text = 1
 family_kind families.Bool = 2
+family_kind families.Uuid = 3
+family_kind families.Date = 4
+family_kind families.Timestamp = 5
+family_kind families.TimestampTz = 6
+family_kind (families.Numeric scale) = 7 + scale
 
-takes-kind : (f : Family) (t : SqlType) → takes f t ≡ true → kind t ≡ family_kind f
+scale-kind : (s digits scale : ℕ) → takes (families.Numeric s) (types.Numeric digits scale) ≡ true → 7 + scale ≡ 7 + s
+scale-kind s digits scale is = ap (λ (n : ℕ). 7 + n) (sym ((Decides-eqb s scale).0 (sym (numeric-takes s digits scale) ∙ is)))
+
+takes-kind : (f : Family) (t : SqlType) → takes f t ≡ true → type_kind t ≡ family_kind f
 takes-kind families.Integer types.Int2 is = refl
 takes-kind families.Integer types.Int4 is = refl
 takes-kind families.Integer types.Int8 is = refl
-takes-kind families.Integer types.Text is = absurd (cc (is))
-takes-kind families.Integer types.Bool is = absurd (cc (is))
 takes-kind families.IntAbs types.Int2 is = refl
 takes-kind families.IntAbs types.Int4 is = refl
 takes-kind families.IntAbs types.Int8 is = refl
-takes-kind families.IntAbs types.Text is = absurd (cc (is))
-takes-kind families.IntAbs types.Bool is = absurd (cc (is))
 takes-kind families.Text types.Text is = refl
-takes-kind families.Text types.Int2 is = absurd (cc (is))
-takes-kind families.Text types.Int4 is = absurd (cc (is))
-takes-kind families.Text types.Int8 is = absurd (cc (is))
-takes-kind families.Text types.Bool is = absurd (cc (is))
 takes-kind families.Bool types.Bool is = refl
-takes-kind families.Bool types.Int2 is = absurd (cc (is))
-takes-kind families.Bool types.Int4 is = absurd (cc (is))
-takes-kind families.Bool types.Int8 is = absurd (cc (is))
-takes-kind families.Bool types.Text is = absurd (cc (is))
+takes-kind families.Uuid types.Uuid is = refl
+takes-kind families.Date types.Date is = refl
+takes-kind families.Timestamp types.Timestamp is = refl
+takes-kind families.TimestampTz types.TimestampTz is = refl
+takes-kind (families.Numeric s) (types.Numeric digits scale) is = scale-kind s digits scale is
+takes-kind f t is = absurd (true≢false (sym is))
 
 -- an operator by absolute value is one of whole numbers
-absolute-kind : (f : Family) (op : Op) → is_some (number_in f Btree op) ≡ true → is_absolute op ≡ true → family_kind f ≡ 0
-absolute-kind families.Integer op some is = refl
-absolute-kind families.IntAbs op some is = refl
-absolute-kind families.Text AbsLt some is = absurd (cc (some))
-absolute-kind families.Text AbsLe some is = absurd (cc (some))
-absolute-kind families.Text AbsEq some is = absurd (cc (some))
-absolute-kind families.Text AbsGe some is = absurd (cc (some))
-absolute-kind families.Text AbsGt some is = absurd (cc (some))
-absolute-kind families.Text Lt some is = absurd (cc (is))
-absolute-kind families.Text Le some is = absurd (cc (is))
-absolute-kind families.Text Eq some is = absurd (cc (is))
-absolute-kind families.Text Ge some is = absurd (cc (is))
-absolute-kind families.Text Gt some is = absurd (cc (is))
-absolute-kind families.Text Ne some is = absurd (cc (is))
-absolute-kind families.Bool AbsLt some is = absurd (cc (some))
-absolute-kind families.Bool AbsLe some is = absurd (cc (some))
-absolute-kind families.Bool AbsEq some is = absurd (cc (some))
-absolute-kind families.Bool AbsGe some is = absurd (cc (some))
-absolute-kind families.Bool AbsGt some is = absurd (cc (some))
-absolute-kind families.Bool Lt some is = absurd (cc (is))
-absolute-kind families.Bool Le some is = absurd (cc (is))
-absolute-kind families.Bool Eq some is = absurd (cc (is))
-absolute-kind families.Bool Ge some is = absurd (cc (is))
-absolute-kind families.Bool Gt some is = absurd (cc (is))
-absolute-kind families.Bool Ne some is = absurd (cc (is))
+abbrev is_plain_absolute : Family → Op → Bool
+is_plain_absolute f op = not (is_some (number_in f Btree op)) || (not (is_absolute op) || nat_eq (family_kind f) 0)
 
--- the types of an operator's sides are of one kind, that of whole numbers where it compares absolute values
+absolute-kind : (f : Family) (op : Op) → is_some (number_in f Btree op) ≡ true → is_absolute op ≡ true → family_kind f ≡ 0
+absolute-kind f op some is =
+    let all = every_pair is_plain_absolute (λ scale. refl) f op in
+    let zero = implied (is_absolute op) (nat_eq (family_kind f) 0) (implied (is_some (number_in f Btree op)) (not (is_absolute op) || nat_eq (family_kind f) 0) all some) is in
+    (Decides-eqb (family_kind f) 0).0 zero
+
+-- the types of an operator's sides are of one kind, that of the integer types where it compares absolute values
 pub record AreOfOneKind (op : Op) (t u : SqlType) : Type 0 where
-  pub same : kind t ≡ kind u
-  pub absolute : is_absolute op ≡ true → kind t ≡ 0
+  pub same : type_kind t ≡ type_kind u
+  pub absolute : is_absolute op ≡ true → type_kind t ≡ 0
 
 family-kinds : (f : Family) (op : Op) (t u : SqlType) → family_has f op t u ≡ true → AreOfOneKind op t u
 family-kinds f op t u is =
@@ -112,40 +96,86 @@ family-kinds f op t u is =
     let left = takes-kind f t inner.0 in
     record { same = left ∙ sym (takes-kind f u inner.1); absolute = λ abs. left ∙ absolute-kind f op outer.1 abs }
 
-some-by : (op : Op) (t u : SqlType) (a b c d : Bool) → (a ≡ true → AreOfOneKind op t u) → (b ≡ true → AreOfOneKind op t u) → (c ≡ true → AreOfOneKind op t u) → (d ≡ true → AreOfOneKind op t u) →
-    a || (b || (c || (d || false))) ≡ true → AreOfOneKind op t u
-some-by op t u true b c d h i j k is = h refl
-some-by op t u false true c d h i j k is = i refl
-some-by op t u false false true d h i j k is = j refl
-some-by op t u false false false true h i j k is = k refl
-some-by op t u false false false false h i j k is = absurd (cc (is))
+rows-kinds : (op : Op) (t u : SqlType) (rows : List Row) → list_any (λ row. family_has row.family op t u) rows ≡ true → AreOfOneKind op t u
+rows-kinds op t u [] is = absurd (true≢false (sym is))
+rows-kinds op t u (row ∷ rows) is = by (family_has row.family op t u) refl is (rows-kinds op t u rows)
+  where
+    by : (b : Bool) → family_has row.family op t u ≡ b → b || list_any (λ row. family_has row.family op t u) rows ≡ true → (list_any (λ row. family_has row.family op t u) rows ≡ true → AreOfOneKind op t u) → AreOfOneKind op t u
+    by true has some more = family-kinds row.family op t u has
+    by false has some more = more some
 
 some-kinds : (op : Op) (t u : SqlType) → some_family_has op t u ≡ true → AreOfOneKind op t u
-some-kinds op t u is =
-    some-by op t u _ _ _ _ (family-kinds families.Integer op t u) (family-kinds families.Text op t u) (family-kinds families.Bool op t u) (family-kinds families.IntAbs op t u) is
+some-kinds op t u is = rows-kinds op t u (table (type_scale t)) is
 
 no-abs : (op : Op) (t u : SqlType) → AreOfOneKind Eq t u → is_absolute op ≡ false → AreOfOneKind op t u
 no-abs op t u k relative = record { same = k.same; absolute = λ abs. absurd (cc (abs, relative)) }
 
 pub exist-kinds : (op : Op) (t u : SqlType) → does_exist op t u ≡ true → AreOfOneKind op t u
 exist-kinds Ne t u is = no-abs Ne t u (some-kinds Eq t u is) refl
-exist-kinds Lt t u is = some-kinds Lt t u is
-exist-kinds Le t u is = some-kinds Le t u is
-exist-kinds Eq t u is = some-kinds Eq t u is
-exist-kinds Ge t u is = some-kinds Ge t u is
-exist-kinds Gt t u is = some-kinds Gt t u is
-exist-kinds AbsLt t u is = some-kinds AbsLt t u is
-exist-kinds AbsLe t u is = some-kinds AbsLe t u is
-exist-kinds AbsEq t u is = some-kinds AbsEq t u is
-exist-kinds AbsGe t u is = some-kinds AbsGe t u is
-exist-kinds AbsGt t u is = some-kinds AbsGt t u is
+exist-kinds op t u is = some-kinds op t u is
 
--- a value is NULL or of a type's kind
+-- what the values of a kind of types are: whole numbers, texts or truth values
+abbrev held : ℕ → ℕ
+held k = cond (nat_eq k 1 || nat_eq k 3) 1 (cond (nat_eq k 2) 2 0)
+
+abbrev value_kind : Value → ℕ
+value_kind values.Null = 0
+value_kind (values.Int n) = 0
+value_kind (values.Text s) = 1
+value_kind (values.Bool b) = 2
+
+-- a value is NULL or of a kind
 abbrev pub HasKind : ℕ → Value → Type 0
 HasKind k values.Null = Unit {0}
 HasKind k (values.Int n) = k ≡ 0
 HasKind k (values.Text s) = k ≡ 1
 HasKind k (values.Bool b) = k ≡ 2
+
+like-kind : (s v : Value) → IsLike s v → HasKind (value_kind s) v
+like-kind s values.Null like = tt
+like-kind (values.Int n) (values.Int m) like = refl
+like-kind (values.Text s) (values.Text t) like = refl
+like-kind (values.Bool b) (values.Bool d) like = refl
+like-kind s v like = absurd like
+
+above : (a b : ℕ) → b < a → nat_eq a b ≡ false
+above a b lt = by (nat_eq a b) refl
+  where
+    by : (c : Bool) → nat_eq a b ≡ c → nat_eq a b ≡ false
+    by true is = let same : a ≡ b = (Decides-eqb a b).0 is in absurd (omega (arith, lt, same))
+    by false is = is
+
+held-above : (k : ℕ) → 3 < k → held k ≡ 0
+held-above k lt =
+    let one = above k 1 (omega (arith, lt)) in
+    let two = above k 2 (omega (arith, lt)) in
+    let three = above k 3 lt in
+    rw (one, two, three) refl
+
+some-kind : (t : SqlType) → value_kind (some_value t) ≡ held (type_kind t)
+some-kind types.Int2 = refl
+some-kind types.Int4 = refl
+some-kind types.Int8 = refl
+some-kind types.Text = refl
+some-kind types.Bool = refl
+some-kind types.Uuid = refl
+some-kind types.Date = refl
+some-kind types.Timestamp = refl
+some-kind types.TimestampTz = refl
+some-kind (types.Numeric digits scale) = sym (held-above (7 + scale) (omega arith))
+
+-- a value of a type is of its kind
+typed-kind : (t : SqlType) (v : Value) → IsOfType t v → HasKind (held (type_kind t)) v
+typed-kind t v is = subst (λ k. HasKind k v) (some-kind t) (like-kind (some_value t) v (like_type t v is))
+
+sample-kind : (t : SqlType) → HasKind (held (type_kind t)) (some_value t)
+sample-kind t = subst (λ k. HasKind k (some_value t)) (some-kind t) (own (some_value t))
+  where
+    own : (v : Value) → HasKind (value_kind v) v
+    own values.Null = tt
+    own (values.Int n) = refl
+    own (values.Text s) = refl
+    own (values.Bool b) = refl
 
 not-absolute : (b : Bool) (k : ℕ) → (b ≡ true → k ≡ 0) → (k ≡ 0 → ⊥) → b ≡ false
 not-absolute true k only other = absurd (other (only refl))
@@ -173,46 +203,12 @@ same-kind k (values.Bool n) (values.Text s) a b = absurd (cc (a, b))
 same-kind k (values.Bool n) (values.Bool s) a b = tt
 
 -- sides of these types may be compared
-pub comparable : (op : Op) (t u : SqlType) (v w : Value) → does_exist op t u ≡ true → HasKind (kind t) v → HasKind (kind u) w → AreComparable op v w
-comparable op t u v w is a b =
-    let kinds = exist-kinds op t u is in
-    let right = subst (λ k. HasKind k w) (sym kinds.same) b in
-    (has-op op (kind t) v kinds.absolute a, has-op op (kind t) w kinds.absolute right, same-kind (kind t) v w a right)
-
--- a value that is read of a literal has the kind of the type beside it
-some-kind : (t : SqlType) → HasKind (kind t) (some_value t)
-some-kind types.Int2 = refl
-some-kind types.Int4 = refl
-some-kind types.Int8 = refl
-some-kind types.Text = refl
-some-kind types.Bool = refl
-
-ranged-kind : (b : Bool) (n : ℤ) (token : Token) (v : Value) → value_or_fault token (cond b (Ok (values.Int n)) (Err Range)) ≡ Ok v → HasKind 0 v
-ranged-kind true n token v is = let same : values.Int n ≡ v = cc (is) in subst (HasKind 0) same refl
-ranged-kind false n token v is = absurd (cc (is))
-
-number-kind : (t : SqlType) (o : Option ℤ) (token : Token) (v : Value) → value_or_fault token (ranged t o) ≡ Ok v → HasKind 0 v
-number-kind t None token v is = absurd (cc (is))
-number-kind t (Some n) token v is = ranged-kind (in_range t n) n token v is
-
-flag-kind : (o : Option Bool) (token : Token) (v : Value) → value_or_fault token (flagged o) ≡ Ok v → HasKind 2 v
-flag-kind None token v is = absurd (cc (is))
-flag-kind (Some b) token v is = let same : values.Bool b ≡ v = cc (is) in subst (HasKind 2) same refl
-
-text-kind : (t : SqlType) (q : Said) (v : Value) → value_or_fault q.token (field_value t q.value) ≡ Ok v → HasKind (kind t) v
-text-kind types.Int2 q v is = number-kind types.Int2 (number_of (word_of q.value)) q.token v is
-text-kind types.Int4 q v is = number-kind types.Int4 (number_of (word_of q.value)) q.token v is
-text-kind types.Int8 q v is = number-kind types.Int8 (number_of (word_of q.value)) q.token v is
-text-kind types.Text q v is = let same : values.Text q.value ≡ v = cc (is) in subst (HasKind 1) same refl
-text-kind types.Bool q v is = flag-kind (flag_of (word_of q.value)) q.token v is
-
-literal-kind : (l : Lit) (other : Option SqlType) (v : Value) → literal_value (type_beside (type_of_lit l) other) l ≡ Ok v → HasKind (kind (type_beside (type_of_lit l) other)) v
-literal-kind (number n) other v is = number-kind types.Int8 (Some (written false n)) n.token v is
-literal-kind (negative m n) other v is = number-kind types.Int8 (Some (written true n)) m v is
-literal-kind (quoted q) other v is = text-kind (type_beside None other) q v is
-literal-kind (constant yes k) other v is = let same : values.Bool true ≡ v = cc (is) in subst (HasKind 2) same refl
-literal-kind (constant no k) other v is = let same : values.Bool false ≡ v = cc (is) in subst (HasKind 2) same refl
-literal-kind (constant unknown k) other v is = let null : values.Null ≡ v = cc (is) in subst (HasKind (kind (type_beside None other))) null tt
+comparable : (op : Op) (t u : SqlType) (v w : Value) → AreOfOneKind op t u → HasKind (held (type_kind t)) v → HasKind (held (type_kind u)) w → AreComparable op v w
+comparable op t u v w kinds a b =
+    let k = held (type_kind t) in
+    let only = λ (abs : is_absolute op ≡ true). ap held (kinds.absolute abs) in
+    let right = subst (λ k. HasKind (held k) w) (sym kinds.same) b in
+    (has-op op k v only a, has-op op k w only right, same-kind k v w a right)
 
 -- a step that is done
 pub record Done {A B : Type 0} (m : Result A Fault) (f : A → Result B Fault) (c : B) : Type 0 where
@@ -264,6 +260,7 @@ module _ (scope : Scope) (type_of : ColRef → SqlType) (test : ColRef → Bool)
   abbrev FitsSide : BoundSide → Type 0
   FitsSide (of_column c t token) = (type_of c ≡ t) × (test c ≡ true)
   FitsSide (of_literal l) = Unit {0}
+  FitsSide (of_typed n q) = Unit {0}
 
   side-fits : (o : OperandTree) (s : BoundSide) → side_of scope type_of o ≡ Ok s → FitsSide s
   side-fits (column c) s is =
@@ -271,36 +268,66 @@ module _ (scope : Scope) (type_of : ColRef → SqlType) (test : ColRef → Bool)
       let same : of_column d.value (type_of d.value) (place_of_col c) ≡ s = cc (d.rest) in
       subst FitsSide same (refl, column-passes c d.value d.first)
   side-fits (literal l) s is = let same : of_literal l ≡ s = cc (is) in subst FitsSide same tt
+  side-fits (named_text n q) s is = let same : of_typed n q ≡ s = cc (is) in subst FitsSide same tt
 
   abbrev FitsOperand : SqlType → Operand → Type 0
-  FitsOperand t x = HasKind (kind t) (value_of (λ c. some_value (type_of c)) x) × (passes_column test x ≡ true)
+  FitsOperand t (col_operand c) = (type_of c ≡ t) × (test c ≡ true)
+  FitsOperand t (lit_operand v) = IsOfType t v
 
-  operand-fits : (s : BoundSide) (other : Option SqlType) (x : Operand) → FitsSide s → operand_of (type_beside (own_type s) other) s ≡ Ok x → FitsOperand (type_beside (own_type s) other) x
-  operand-fits (of_column c t token) other x fits is =
-      let same : col_operand c ≡ x = cc (is) in
-      subst (FitsOperand t) same (subst (λ u. HasKind (kind u) (some_value (type_of c))) fits.0 (some-kind (type_of c)), fits.1)
+  operand-kind : (t : SqlType) (x : Operand) → FitsOperand t x → HasKind (held (type_kind t)) (value_of (λ c. some_value (type_of c)) x)
+  operand-kind t (col_operand c) fits = subst (λ u. HasKind (held (type_kind u)) (some_value (type_of c))) fits.0 (sample-kind (type_of c))
+  operand-kind t (lit_operand v) fits = typed-kind t v fits
+
+  operand-passes : (t : SqlType) (x : Operand) → FitsOperand t x → passes_column test x ≡ true
+  operand-passes t (col_operand c) fits = fits.1
+  operand-passes t (lit_operand v) fits = refl
+
+  operand-alike : (t u : SqlType) (x y : Operand) → type_kind t ≡ type_kind u → FitsOperand t x → FitsOperand u y → AreAlike type_of x y
+  operand-alike t u (col_operand c) (col_operand d) same left right = ap type_kind left.0 ∙ (same ∙ sym (ap type_kind right.0))
+  operand-alike t u (col_operand c) (lit_operand v) same left right = tt
+  operand-alike t u (lit_operand v) (col_operand c) same left right = tt
+  operand-alike t u (lit_operand v) (lit_operand w) same left right = tt
+
+  operand-integer : (t : SqlType) (x : Operand) → type_kind t ≡ 0 → FitsOperand t x → IsInteger type_of x
+  operand-integer t (col_operand c) zero fits = ap type_kind fits.0 ∙ zero
+  operand-integer t (lit_operand v) zero fits = tt
+
+  operand-fits : (s : BoundSide) (other : Option SqlType) (x : Operand) → FitsSide s → operand_of (type_beside s other) s ≡ Ok x → FitsOperand (type_beside s other) x
+  operand-fits (of_column c t token) other x fits is = let same : col_operand c ≡ x = cc (is) in subst (FitsOperand t) same fits
   operand-fits (of_literal l) other x fits is =
-      let d = next-done (literal_value (type_beside (type_of_lit l) other) l) (λ v. Ok (lit_operand v)) x is in
+      let t = type_beside (of_literal l) other in
+      let d = next-done (literal_value t l) (λ v. Ok (lit_operand v)) x is in
       let same : lit_operand d.value ≡ x = cc (d.rest) in
-      subst (FitsOperand (type_beside (type_of_lit l) other)) same (literal-kind l other d.value d.first, refl)
+      subst (FitsOperand t) same (literal-typed l other d.value d.first)
+  operand-fits (of_typed n q) other x fits is =
+      let t = type_beside (of_typed n q) other in
+      let d = next-done (named_value (token_of n) (type_named (bytes_of n)) q.value) (λ v. Ok (lit_operand v)) x is in
+      let same : lit_operand d.value ≡ x = cc (d.rest) in
+      subst (FitsOperand t) same (named-typed (token_of n) (type_or types.Text other) (type_named (bytes_of n)) q.value d.value d.first)
+
+  comparison-typed : (op : Op) (t u : SqlType) (x y : Operand) → does_exist op t u ≡ true → FitsOperand t x → FitsOperand u y → IsComparison type_of op x y
+  comparison-typed op t u x y exists left right =
+      let kinds = exist-kinds op t u exists in
+      record {
+        comparable = comparable op t u _ _ kinds (operand-kind t x left) (operand-kind u y right);
+        alike = operand-alike t u x y kinds.same left right;
+        integers = λ abs. (operand-integer t x (kinds.absolute abs) left, operand-integer u y (sym kinds.same ∙ kinds.absolute abs) right);
+      }
 
   sides-good : (op : Said) (a b : BoundSide) (c : Cond) → FitsSide a → FitsSide b → compare_sides op a b ≡ Ok c → IsGood c
   sides-good op a b c fa fb is =
-      let t = type_beside (own_type a) (own_type b) in
-      let u = type_beside (own_type b) (own_type a) in
+      let t = type_beside a (own_type b) in
+      let u = type_beside b (own_type a) in
       let first = next-done (operand_of t a) (λ x. next (operand_of u b) (λ y. operated (operator_of op.value) op.token t u x y)) c is in
       let second = next-done (operand_of u b) (λ y. operated (operator_of op.value) op.token t u first.value y) c first.rest in
       let there = operated-done (operator_of op.value) op.token t u first.value second.value c second.rest in
       let left = operand-fits a (own_type b) first.value fa first.first in
       let right = operand-fits b (own_type a) second.value fb second.first in
-      subst IsGood (sym there.compared) (comparable there.op t u _ _ there.exists left.0 right.0, both-true _ _ left.1 right.1)
+      subst IsGood (sym there.compared) (comparison-typed there.op t u first.value second.value there.exists left right, both-true _ _ (operand-passes t first.value left) (operand-passes u second.value right))
 
   flag-good : (t : SqlType) (r : ColRef) (token : Token) (c : Cond) → type_of r ≡ t → test r ≡ true → flag_column t r token ≡ Ok c → IsGood c
   flag-good types.Bool r token c typed passes is = let same : bool_col r ≡ c = cc (is) in subst IsGood same (typed, passes)
-  flag-good types.Int2 r token c typed passes is = absurd (cc (is))
-  flag-good types.Int4 r token c typed passes is = absurd (cc (is))
-  flag-good types.Int8 r token c typed passes is = absurd (cc (is))
-  flag-good types.Text r token c typed passes is = absurd (cc (is))
+  flag-good t r token c typed passes is = absurd (cc (is))
 
   good-and : (x : Cond) (xs ys : Conds) → IsGood x → AreGood xs → ys ≡ cond_and x xs → AreGood ys
   good-and x xs ys a b is = subst AreGood (sym is) ((a.0, b.0), both-true _ _ a.1 b.1)

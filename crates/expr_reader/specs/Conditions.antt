@@ -15,14 +15,15 @@ use Rattle.pg_expr.specs.declared.operand.Operand.{Operand}
 use Rattle.pg_expr.specs.declared.operand.Operand.TheVariants.{Col as col_operand, Lit as lit_operand}
 use Rattle.pg_expr.specs.Cond.{Cond, compare as compared, is_null as null_test, is_not_null as not_null_test, bool_col, const, all_of, any_of, negation, Conds, no_conds, cond_and}
 use Rattle.sql_lex.specs.declared.tokens.Token.{Token}
-use Rattle.sql_grammar.specs.Terminals.{Said, token_of}
+use Rattle.sql_grammar.specs.Terminals.{Ident, Said, token_of}
 use Rattle.sql_grammar.specs.Faults.{bytes_of, fault_at}
-use Rattle.sql_grammar.specs.Syntax.{Mark, Col, bare, qualified, Constant, yes, no, unknown, Lit, OperandTree, column, literal, Expr, either_of, Ors, no_or, or_conj, Conj, both_of, Ands, no_and, and_neg, Negated, no_not, not_before, Neg, negated, plain, Atom, parens, compare, is_null, is_not_null, in_list, between, column_alone, constant_alone}
+use Rattle.sql_grammar.specs.Syntax.{Mark, Col, bare, qualified, Constant, yes, no, unknown, Lit, number, negative, OperandTree, column, literal, typed, Expr, either_of, Ors, no_or, or_conj, Conj, both_of, Ands, no_and, and_neg, Negated, no_not, not_before, Neg, negated, plain, Atom, parens, compare, is_null, is_not_null, in_list, between, column_alone, constant_alone}
 use Rattle.expr_reader.specs.Operators.{operator_of}
 use Rattle.expr_reader.specs.declared.found.Found.{Found}
 use Rattle.expr_reader.specs.declared.found.Found.TheVariants.{One, NoTable, NoColumn, Many}
 use Rattle.expr_reader.specs.Scope.{Scope, look_up}
-use Rattle.expr_reader.specs.Literals.{type_of_lit, literal_value}
+use Rattle.expr_reader.specs.Literals.{type_of_lit, number_type, literal_value, named_value}
+use Rattle.expr_reader.specs.Types.{type_named}
 
 -- a step and then the next, or the first fault
 abbrev pub next : {A B : Type 0} → Result A Fault → (A → Result B Fault) → Result B Fault
@@ -46,26 +47,36 @@ abbrev pub place_of_col : Col → Token
 place_of_col (bare n) = token_of n
 place_of_col (qualified q _ n) = token_of q
 
--- a side of a comparison whose column is found: the column, its type and its first token, or a literal
+-- a side of a comparison whose column is found: the column, its type and its first token, a literal, or a type's name and a
+-- quoted text
 pub data BoundSide : Type 0 where
   of_column : ColRef → SqlType → Token → BoundSide
   of_literal : Lit → BoundSide
+  of_typed : Ident → Said → BoundSide
 
 -- its own type, where it has one
 abbrev pub own_type : BoundSide → Option SqlType
 own_type (of_column c t _) = Some t
 own_type (of_literal l) = type_of_lit l
+own_type (of_typed n q) = type_named (bytes_of n)
 
--- its type beside another side: its own, else the other's, else text
-abbrev pub type_beside : Option SqlType → Option SqlType → SqlType
-type_beside (Some t) other = t
-type_beside None (Some t) = t
-type_beside None None = types.Text
+-- a type, where there is one, else another
+abbrev pub type_or : SqlType → Option SqlType → SqlType
+type_or t None = t
+type_or t (Some own) = own
 
--- what a side of a comparison stands for, where a quoted text has a type
+-- the type of a side beside another one with this type by itself, or with none: its own, else the other's, else text; a whole
+-- number has the type that it has beside the other's
+abbrev pub type_beside : BoundSide → Option SqlType → SqlType
+type_beside (of_literal (number n)) other = number_type (type_or types.Text other)
+type_beside (of_literal (negative minus n)) other = number_type (type_or types.Text other)
+type_beside side other = type_or (type_or types.Text other) (own_type side)
+
+-- what a side of a comparison stands for, where it has a type
 abbrev pub operand_of : SqlType → BoundSide → Result Operand Fault
 operand_of t (of_column c _ _) = Ok (col_operand c)
 operand_of t (of_literal l) = next (literal_value t l) (λ v. Ok (lit_operand v))
+operand_of t (of_typed n q) = next (named_value (token_of n) (type_named (bytes_of n)) q.value) (λ v. Ok (lit_operand v))
 
 -- the operator over two types, or the fault at its token where there is none
 abbrev pub operated : Option Op → Token → SqlType → SqlType → Operand → Operand → Result Cond Fault
@@ -78,7 +89,7 @@ compare_as op t u a b = next (operand_of t a) (λ x. next (operand_of u b) (λ y
 
 -- two sides by an operator, each of its type beside the other
 abbrev pub compare_sides : Said → BoundSide → BoundSide → Result Cond Fault
-compare_sides op a b = compare_as op (type_beside (own_type a) (own_type b)) (type_beside (own_type b) (own_type a)) a b
+compare_sides op a b = compare_as op (type_beside a (own_type b)) (type_beside b (own_type a)) a b
 
 -- a column that is a condition by itself is bool, or the fault is at its first token
 abbrev pub flag_column : SqlType → ColRef → Token → Result Cond Fault
@@ -126,6 +137,7 @@ module _ (scope : Scope) (type_of : ColRef → SqlType) where
   abbrev pub side_of : OperandTree → Result BoundSide Fault
   side_of (column c) = next (column_of scope c) (λ r. Ok (of_column r (type_of r) (place_of_col c)))
   side_of (literal l) = Ok (of_literal l)
+  side_of (typed n q) = Ok (of_typed n q)
 
   -- a comparison: its columns from the left, then the rest
   abbrev pub comparison : OperandTree → Said → OperandTree → Result Cond Fault

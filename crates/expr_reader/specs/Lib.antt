@@ -1,4 +1,5 @@
 pub mod Scope
+pub mod Types
 pub mod Literals
 pub mod Conditions
 pub mod Reading

@@ -1,8 +1,8 @@
 -- The value of a literal, or its fault (PostgreSQL manual, chapters Lexical Structure, Constants, and Type Conversion; codes:
 -- appendix Error Codes).
-use Rattle.std.specs.Prelude.{Bool, true, false, Option, Some, None, Result, Ok, Err, ℤ}
+use Rattle.std.specs.Prelude.{ℕ, List, Bool, true, false, cond, Option, Some, None, Result, Ok, Err, ℤ}
 use Rattle.std.specs.Str.Parse.{digits_value}
-use Rattle.pg_base.specs.declared.faults.Code.TheVariants.{S10, S11, S12, S17}
+use Rattle.pg_base.specs.declared.faults.Code.TheVariants.{S8, S10, S11, S12, S17}
 use Rattle.pg_base.specs.declared.faults.Fault.{Fault}
 use Rattle.pg_value.specs.declared.fields.FieldFault.{FieldFault}
 use Rattle.pg_value.specs.declared.fields.FieldFault.TheVariants.{Range}
@@ -10,7 +10,8 @@ use Rattle.pg_value.specs.declared.value.SqlType.{SqlType}
 use Rattle.pg_value.specs.declared.value.SqlType.TheVariants as types
 use Rattle.pg_value.specs.declared.value.Value.{Value}
 use Rattle.pg_value.specs.declared.value.Value.TheVariants as values
-use Rattle.pg_value.specs.Fields.{signed, ranged, field_value}
+use Rattle.pg_value.specs.Fields.{signed, whole_value, field_value}
+use Rattle.pg_value.specs.Types.{takes_whole}
 use Rattle.sql_lex.specs.declared.tokens.Token.{Token}
 use Rattle.sql_grammar.specs.Terminals.{Said}
 use Rattle.sql_grammar.specs.Faults.{fault_at}
@@ -42,21 +43,30 @@ type_of_lit (constant yes k) = Some types.Bool
 type_of_lit (constant no k) = Some types.Bool
 type_of_lit (constant unknown k) = None
 
--- the value of a literal in a condition, where a quoted text has this type: a number is an int8, and a quoted text is read
--- as the text of a field, but never as NULL
+-- the type of a whole number beside one of this type: that type where it is numeric, else int8
+abbrev pub number_type : SqlType → SqlType
+number_type (types.Numeric digits scale) = types.Numeric digits scale
+number_type _ = types.Int8
+
+-- the value of a literal in a condition, where a quoted text has this type and a whole number the type that it has beside
+-- this one: a quoted text is read as the text of a field, but never as NULL
 abbrev pub literal_value : SqlType → Lit → Result Value Fault
-literal_value t (number n) = value_or_fault n.token (ranged types.Int8 (Some (written false n)))
-literal_value t (negative minus n) = value_or_fault minus (ranged types.Int8 (Some (written true n)))
+literal_value t (number n) = value_or_fault n.token (whole_value (number_type t) (written false n))
+literal_value t (negative minus n) = value_or_fault minus (whole_value (number_type t) (written true n))
 literal_value t (quoted q) = value_or_fault q.token (field_value t q.value)
 literal_value t (constant yes k) = Ok (values.Bool true)
 literal_value t (constant no k) = Ok (values.Bool false)
 literal_value t (constant unknown k) = Ok values.Null
 
+-- the value of a quoted text behind the name of a type, at this token, or the fault there: no type has the name, or the text
+-- spells no value of it
+abbrev pub named_value : Token → Option SqlType → List ℕ → Result Value Fault
+named_value token None text = Err (fault_at S8 token)
+named_value token (Some t) text = value_or_fault token (field_value t text)
+
 -- a whole number, given at this token, as a value of a column of this type
 abbrev pub number_as : SqlType → Token → ℤ → Result Value Fault
-number_as types.Text token n = Err (fault_at S10 token)
-number_as types.Bool token n = Err (fault_at S10 token)
-number_as t token n = value_or_fault token (ranged t (Some n))
+number_as t token n = cond (takes_whole t) (value_or_fault token (whole_value t n)) (Err (fault_at S10 token))
 
 -- a truth value, given at this token, as a value of a column of this type
 abbrev pub flag_as : SqlType → Token → Bool → Result Value Fault

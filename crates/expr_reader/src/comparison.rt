@@ -2,20 +2,19 @@
 
 ghost use Rattle.std.specs.Prelude.{◌≡◌, Option};
 ghost use Rattle.pg_expr.specs.work.View.{cond};
-ghost use Rattle.expr_reader.specs.Conditions.{BoundSide as SideTree, own_type as own_type_of, type_beside as type_beside_of, operand_of as operand_of_side, operated as operated_of};
+ghost use Rattle.expr_reader.specs.Conditions.{BoundSide as SideTree, own_type as own_type_of, type_or as type_or_of, type_beside as type_beside_of, operand_of as operand_of_side, operated as operated_of};
 ghost use Rattle.expr_reader.specs.Literals.{type_of_lit};
 ghost use Rattle.expr_reader.specs.work.Reads.{seen_as};
 ghost use Rattle.expr_reader.specs.work.Written.{side_read, IsComparison};
 
 use crate::Operator;
-use crate::value::literal_value;
+use crate::value::{literal_value, named_value, number_type};
 use crate::written::{Literal, Side};
 use opfamily::operator_exists;
 use pg_base::{Code, Fault};
 use pg_expr::{Expr, Operand};
 use pg_value::{SqlType, Truth};
 use sql_grammar::fault_at;
-use std::alloc::Global;
 
 /// The type that a side has by itself; a quoted text and NULL have none.
 fn own_type(side: &Side) -> Option<SqlType>
@@ -26,26 +25,40 @@ fn own_type(side: &Side) -> Option<SqlType>
         Side::Literal(Literal::Whole(..)) => Some(SqlType::Int8),
         Side::Literal(Literal::Constant(Truth::True | Truth::False, _)) => Some(SqlType::Bool),
         Side::Literal(Literal::Constant(Truth::Unknown, _) | Literal::Quoted(_)) => None,
+        Side::Typed(t, _, _) => *t,
     }
 }
 
-/// The type of a side beside another one: its own, else the other's, else text.
-fn type_beside(own: Option<SqlType>, other: Option<SqlType>) -> SqlType
-    ensures { result ≡ type_beside_of own other }
+/// A type, where there is one, else another.
+fn type_or(t: SqlType, own: Option<SqlType>) -> SqlType
+    ensures { result ≡ type_or_of t own }
 {
-    match (own, other) {
-        (Some(t), _) | (None, Some(t)) => t,
-        (None, None) => SqlType::Text,
+    match own {
+        Some(own) => own,
+        None => t,
     }
 }
 
-/// What a side stands for, where a quoted text has this type, or its literal's fault.
-fn operand_of(alloc: Global, t: SqlType, side: Side) -> Result<Operand, Fault>
+/// The type of a side beside another one with this type by itself, or with none: its own, else the other's, else text; a
+/// whole number beside a numeric has that one's.
+fn type_beside(side: &Side, other: Option<SqlType>) -> SqlType
+    ensures { (s : SideTree) → side.now ≡ side_read s → result ≡ type_beside_of s other }
+{
+    let t = type_or(SqlType::Text, other);
+    match side {
+        Side::Literal(Literal::Whole(..)) => number_type(t),
+        _ => type_or(t, own_type(side)),
+    }
+}
+
+/// What a side stands for, where it has this type, or its literal's fault.
+fn operand_of(t: SqlType, side: Side) -> Result<Operand, Fault>
     ensures { (s : SideTree) → side ≡ side_read s → result ≡ operand_of_side t s }
 {
     match side {
         Side::Column(c, _, _) => Ok(Operand::Col(c)),
-        Side::Literal(literal) => Ok(Operand::Lit(literal_value(alloc, t, literal)?)),
+        Side::Literal(literal) => Ok(Operand::Lit(literal_value(t, literal)?)),
+        Side::Typed(named, token, text) => Ok(Operand::Lit(named_value(named, token, text)?)),
     }
 }
 
@@ -66,14 +79,14 @@ fn operated(
 }
 
 /// The comparison of two sides, or its first fault: of a literal, from the left, and then of the operator. No memory is wanted.
-pub fn compare(alloc: Global, operator: Operator, left: Side, right: Side) -> Result<Expr, Fault>
+pub fn compare(operator: Operator, left: Side, right: Side) -> Result<Expr, Fault>
     ensures { IsComparison operator left right (seen_as cond result) }
 {
     let own = own_type(&left);
     let other = own_type(&right);
-    let t = type_beside(own, other);
-    let u = type_beside(other, own);
-    let left = operand_of(alloc, t, left)?;
-    let right = operand_of(alloc, u, right)?;
+    let t = type_beside(&left, other);
+    let u = type_beside(&right, own);
+    let left = operand_of(t, left)?;
+    let right = operand_of(u, right)?;
     operated(operator, t, u, left, right)
 }

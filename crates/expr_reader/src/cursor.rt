@@ -2,6 +2,7 @@
 
 ghost use Rattle.std.specs.Prelude.{◌≡◌, ◌≢◌, ◌≤◌, ◌^◌, ℕ, List, [], ◌∷◌, length, drop, take, true, false, IfErr, IfOk, MatchOption, MatchResult};
 ghost use Rattle.sql_lex.specs.Words.{AreWords};
+ghost use Rattle.sql_grammar.specs.declared.class.Class.TheVariants.{Quoted as ClassQuoted};
 ghost use Rattle.sql_grammar.specs.Terminals.{Terminal, Ident, t_key, t_mark, t_name};
 ghost use Rattle.sql_grammar.specs.Faults.{terminals};
 ghost use Rattle.expr_reader.specs.work.Reading.{Begins, BeginsNot, BeginsName, BeginsNoName, BeginsQuoted, BeginsNoQuoted, IsNextToken, IsNextClass, free_name, TakesNumber, TakesOperator};
@@ -108,6 +109,20 @@ impl<'a> Cursor<'a> {
         } else {
             None
         }
+    }
+
+    /// Whether a quoted text stands behind the next word.
+    pub fn is_before_quoted(&self) -> bool
+        ensures quoted { result ≡ true → IsNextClass ClassQuoted (drop 1 self.now) }
+        ensures other { result ≡ false → BeginsNoQuoted (drop 1 self.now) }
+    {
+        let mut behind = Cursor {
+            text: self.text,
+            tokens: self.tokens,
+            at: self.at,
+        };
+        behind.skip(1);
+        behind.peek() == Some(Class::Quoted)
     }
 
     /// Passes over the next words; over all that are left where there are not so many.

@@ -98,7 +98,7 @@ fn comparison<S: Scope>(
     ensures ahead { length from.new ≤ length from.old }
 {
     let right = operand(alloc, scope, from)?;
-    Ok(compare(alloc, operator, left, right)?)
+    Ok(compare(operator, left, right)?)
 }
 
 /// A literal that is equal to this one.
@@ -123,6 +123,7 @@ fn same_side(alloc: Global, side: &Side) -> Result<Side, Memory>
     match side {
         Side::Column(c, t, token) => Ok(Side::Column(*c, *t, *token)),
         Side::Literal(literal) => Ok(Side::Literal(copied(alloc, literal)?)),
+        Side::Typed(t, token, text) => Ok(Side::Typed(*t, *token, text.copy(alloc)?)),
     }
 }
 
@@ -175,12 +176,7 @@ fn equality(
         op: Some(Op::Eq),
         token: word,
     };
-    Ok(compare(
-        alloc,
-        operator,
-        Side::Column(c, t, first),
-        Side::Literal(right),
-    )?)
+    Ok(compare(operator, Side::Column(c, t, first), Side::Literal(right))?)
 }
 
 /// The comparisons of IN, which is taken: `(`, literals with a comma between them, and `)` are next.
@@ -275,6 +271,7 @@ fn after_operand<S: Scope>(
     match left {
         Side::Column(c, t, token) => Ok(column_test(from, c, t, token)?),
         Side::Literal(literal) => Ok(constant(literal)),
+        Side::Typed(..) => unreachable!(),
     }
 }
 

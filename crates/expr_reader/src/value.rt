@@ -1,14 +1,14 @@
 //! The values of literals.
 
-ghost use Rattle.std.specs.Prelude.{◌≡◌, ◌≢◌, ◌≤◌, ◌<◌, length, List, ◌++◌, IfOk, Some};
-ghost use Rattle.pg_value.specs.Fields.{signed, ranged, field_value};
-ghost use Rattle.pg_value.specs.Types.{limit, IsOfType};
+ghost use Rattle.std.specs.Prelude.{◌≡◌, ◌≢◌, ◌≤◌, true, length, List, ◌++◌, IfOk};
+ghost use Rattle.pg_value.specs.Fields.{signed, field_value, whole_value as whole_value_of};
+ghost use Rattle.pg_value.specs.Types.{takes_whole, IsOfType};
 ghost use Rattle.pg_value.specs.declared.value.Value.TheVariants as values;
 ghost use Rattle.sql_lex.specs.declared.tokens.Token.{Token};
 ghost use Rattle.sql_grammar.specs.Terminals.{Terminal};
 ghost use Rattle.sql_grammar.specs.Syntax.{Lit};
 ghost use Rattle.sql_grammar.specs.Words.{words_of_lit};
-ghost use Rattle.expr_reader.specs.Literals.{value_or_fault, literal_value as literal_value_of, typed_value as typed_value_of, number_as as number_as_of, flag_as as flag_as_of, place_of_lit};
+ghost use Rattle.expr_reader.specs.Literals.{value_or_fault, literal_value as literal_value_of, typed_value as typed_value_of, number_type as number_type_of, named_value as named_value_of, number_as as number_as_of, flag_as as flag_as_of, place_of_lit};
 ghost use Rattle.expr_reader.specs.work.Literals.{IfCapped};
 ghost use Rattle.expr_reader.specs.work.Written.{literal_of};
 ghost use Rattle.expr_reader.specs.work.Reading.{IfWords};
@@ -18,7 +18,7 @@ use crate::literal::literal;
 use crate::written::Literal;
 use crate::{Cursor, Spelled};
 use pg_base::{Code, Fault, Refusal};
-use pg_value::{FieldFault, SqlType, Truth, Value, read_value, signed_value};
+use pg_value::{Bytes, FieldFault, SqlType, Truth, Value, owned_value, whole_value};
 use sql_grammar::fault_at;
 use sql_lex::Token;
 use std::alloc::Global;
@@ -43,37 +43,55 @@ fn spelled_value(value: Result<Value, FieldFault>, token: Token) -> Result<Value
     }
 }
 
-/// A whole number of an integer type.
-fn whole_value(t: SqlType, minus: bool, magnitude: u64, token: Token) -> Result<Value, Fault>
-    requires integer { 0 < limit t }
-    ensures { IfCapped magnitude (λ n. result ≡ value_or_fault token (ranged t (Some (signed minus n)))) }
+/// A whole number of a type of which numbers without a point are.
+fn number_value(t: SqlType, minus: bool, magnitude: u64, token: Token) -> Result<Value, Fault>
+    requires { takes_whole t ≡ true }
+    ensures { IfCapped magnitude (λ n. result ≡ value_or_fault token (whole_value_of t (signed minus n))) }
 {
-    spelled_value(signed_value(t, minus, magnitude), token)
+    spelled_value(whole_value(t, minus, magnitude), token)
 }
 
 /// A quoted text as a value of the type. No memory is wanted: a text is handed on, and no other value takes any.
-fn quoted_value(alloc: Global, t: SqlType, text: Spelled) -> Result<Value, Fault>
+fn quoted_value(t: SqlType, text: Spelled) -> Result<Value, Fault>
     ensures { result ≡ value_or_fault text.token (field_value t text.bytes) }
 {
     let Spelled { bytes, token } = text;
+    spelled_value(owned_value(t, bytes), token)
+}
+
+/// The type of a whole number beside one of this type.
+pub fn number_type(t: SqlType) -> SqlType
+    ensures same { result ≡ number_type_of t }
+    ensures whole { takes_whole result ≡ true }
+{
     match t {
-        SqlType::Text => Ok(Value::Text(bytes)),
-        _ => spelled_value(read_value(alloc, t, bytes.items()), token),
+        SqlType::Numeric { .. } => t,
+        _ => SqlType::Int8,
     }
 }
 
 /// The value of a literal in a condition, where a quoted text has this type, or its fault.
-pub fn literal_value(alloc: Global, t: SqlType, literal: Literal) -> Result<Value, Fault>
+pub fn literal_value(t: SqlType, literal: Literal) -> Result<Value, Fault>
     ensures { (l : Lit) → literal ≡ literal_of l → result ≡ literal_value_of t l }
 {
     match literal {
         Literal::Whole(minus, magnitude, token) => {
-            whole_value(SqlType::Int8, minus, magnitude, token)
+            number_value(number_type(t), minus, magnitude, token)
         }
-        Literal::Quoted(text) => quoted_value(alloc, t, text),
+        Literal::Quoted(text) => quoted_value(t, text),
         Literal::Constant(Truth::True, _) => Ok(Value::Bool(true)),
         Literal::Constant(Truth::False, _) => Ok(Value::Bool(false)),
         Literal::Constant(Truth::Unknown, _) => Ok(Value::Null),
+    }
+}
+
+/// The value of a quoted text behind a name at this token, which is that of this type where there is one, or the fault there.
+pub fn named_value(t: Option<SqlType>, token: Token, text: Bytes) -> Result<Value, Fault>
+    ensures { result ≡ named_value_of token t text }
+{
+    match t {
+        Some(t) => spelled_value(owned_value(t, text), token),
+        None => Err(fault_at(Code::S8, token)),
     }
 }
 
@@ -82,8 +100,10 @@ fn number_as(t: SqlType, minus: bool, magnitude: u64, token: Token) -> Result<Va
     ensures { IfCapped magnitude (λ n. result ≡ number_as_of t token (signed minus n)) }
 {
     match t {
-        SqlType::Text | SqlType::Bool => Err(fault_at(Code::S10, token)),
-        SqlType::Int2 | SqlType::Int4 | SqlType::Int8 => whole_value(t, minus, magnitude, token),
+        SqlType::Int2 | SqlType::Int4 | SqlType::Int8 | SqlType::Numeric { .. } => {
+            number_value(t, minus, magnitude, token)
+        }
+        _ => Err(fault_at(Code::S10, token)),
     }
 }
 
@@ -98,12 +118,12 @@ fn flag_as(t: SqlType, flag: bool, token: Token) -> Result<Value, Fault>
 }
 
 /// The value of a literal that is given for a column of this type, or its fault.
-fn typed_value(alloc: Global, t: SqlType, literal: Literal) -> Result<Value, Fault>
+fn typed_value(t: SqlType, literal: Literal) -> Result<Value, Fault>
     ensures { (l : Lit) → literal ≡ literal_of l → result ≡ typed_value_of t l }
 {
     match literal {
         Literal::Whole(minus, magnitude, token) => number_as(t, minus, magnitude, token),
-        Literal::Quoted(text) => quoted_value(alloc, t, text),
+        Literal::Quoted(text) => quoted_value(t, text),
         Literal::Constant(Truth::True, token) => flag_as(t, true, token),
         Literal::Constant(Truth::False, token) => flag_as(t, false, token),
         Literal::Constant(Truth::Unknown, token) => Err(fault_at(Code::S17, token)),
@@ -128,6 +148,6 @@ pub fn read_literal(alloc: Global, t: SqlType, from: &mut Cursor) -> Result<Plac
 {
     let token = from.token();
     let literal = literal(alloc, from)?;
-    let value = typed_value(alloc, t, literal)?;
+    let value = typed_value(t, literal)?;
     Ok(Placed { value, token })
 }

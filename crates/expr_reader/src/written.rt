@@ -2,7 +2,7 @@
 
 use crate::Spelled;
 use pg_expr::ColRef;
-use pg_value::{SqlType, Truth};
+use pg_value::{Bytes, SqlType, Truth};
 use sql_lex::Token;
 
 /// A literal.
@@ -23,4 +23,6 @@ pub enum Side {
     Column(ColRef, SqlType, Token),
     /// A literal.
     Literal(Literal),
+    /// The type of a name, where one has it, the name's token, and the quoted text behind it.
+    Typed(Option<SqlType>, Token, Bytes),
 }

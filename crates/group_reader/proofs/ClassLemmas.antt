@@ -1,35 +1,25 @@
 -- The class by which a column orders is the one that has it in its default family.
-use Rattle.std.proofs.Common.{◌≡◌, ℕ, ◌+◌, ◌<◌, Bool, true, false, cond, ◌||◌, List, [], ◌∷◌, length, suc, All, refl, sym, ap, ap₂, ◌∙◌, subst, arith}
-use Rattle.std.specs.Prelude.{Option, None, Some, find, option_map, slice_index_or}
-use Rattle.std.specs.List.{list_any, position_from}
-use Rattle.std.specs.Option.{option_or}
+use Rattle.std.proofs.Common.{◌≡◌, ℕ, ◌<◌, Bool, true, false, List, length, All, refl, sym, ap, ◌∙◌, subst, arith}
+use Rattle.std.specs.Prelude.{Option, None, Some, find, option_map}
 use Rattle.std.proofs.lemmas.Bool.{and_parts, true≢false}
 use Rattle.pg_value.specs.declared.operators.Family.{Family}
-use Rattle.pg_value.specs.declared.operators.Family.TheVariants as families
-use Rattle.pg_value.specs.declared.value.SqlType.{SqlType}
-use Rattle.pg_value.specs.declared.value.SqlType.TheVariants.{Int2, Int4, Int8, Text as TextType, Bool as BoolType}
-use Rattle.pg_value.specs.work.Order.{IsOfFamily}
-use Rattle.pg_value.specs.Types.{IsOfType}
-use Rattle.opfamily.specs.Answers.{default_family_of}
+use Rattle.opfamily.specs.Answers.{default_family_of, is_family}
 use Rattle.pg_expr.specs.declared.operand.ColRef.{ColRef}
-use Rattle.pg_expr.specs.Typed.{IsTyped, some_value}
+use Rattle.pg_expr.specs.Typed.{IsTyped}
 use Rattle.eq_classes.specs.declared.order.OrderItem.{OrderItem}
-use Rattle.eq_classes.specs.Classes.{Class, IsClass, Premises, direction_by, has_member, in_family, is_family, is_in, is_some_and, orders_by}
+use Rattle.eq_classes.specs.Classes.{Class, IsClass, Premises, direction_by, has_member, in_family, is_in, is_some_and, orders_by}
 use Rattle.eq_classes.specs.Clauses.{ClassTable}
 use Rattle.eq_classes.specs.Holding.{IsClassTable}
 use Rattle.eq_classes.specs.Listing.{blank, class_at}
 use Rattle.eq_classes.proofs.EqualLemmas.{family_is}
 use Rattle.eq_classes.proofs.HoldLemmas.{in_map}
 use Rattle.eq_classes.proofs.ListLemmas.{IsIn, all_at, any_from, found_in, found_passes, in_at}
-use Rattle.eq_classes.proofs.SoundLemmas.{class_sound, member_in}
+use Rattle.eq_classes.proofs.PlainLemmas.{plain_class_is}
 use Rattle.eq_classes.proofs.UniqueLemmas.{meeting}
 use Rattle.pathkeys.specs.Keys.{class_of, order_class}
 use Rattle.group_query.specs.Grouping.{directed_item, group_items}
 use Rattle.pg_base.proofs.ListLemmas.{found-at as found_at}
-use Rattle.pg_base.proofs.OptionLemmas.{some-or as some_or}
 use Rattle.pg_base.proofs.OptionLemmas.{found-none as found_none}
-use Rattle.eq_classes.proofs.TypedLemmas.{is_some_value as sample_fits}
-use Rattle.eq_classes.proofs.DefaultLemmas.{default_of, no_default_abs, same_family}
 use Rattle.group_query.proofs.ItemLemmas.{directed-column}
 
 -- the class of a number: it has a column in a family
@@ -48,33 +38,9 @@ class_found t x f n h =
     record { low = low; family = sym (family_is (class_at t.classes n).family f parts.0); member = parts.1 }
 
 module _ (g : Premises) (t : ClassTable) (is : IsClassTable g t) (typed : All (IsTyped g.type_of) g.conjuncts) where
-  -- the class of a column in a family that is a default one is in the column's default family
-  member_default : (x : ColRef) (f : Family) (n : ℕ) → ClassOf t x f n → (f ≡ families.IntAbs → ⊥) → default_family_of (g.type_of x) ≡ Some f
-  member_default x f n of other =
-      let c : Class = class_at t.classes n in
-      let sound = class_sound g (λ y. some_value (g.type_of y)) typed (λ y. sample_fits (g.type_of y)) t.classes is.classes c (in_at t.classes n blank of.low) in
-      default_of (g.type_of x) f (subst (λ (h : Family). IsOfFamily h (some_value (g.type_of x))) (sym of.family) (sound.fits x (member_in c x of.member))) other
-
-  no_other : (x : ColRef) (f h : Family) → default_family_of (g.type_of x) ≡ Some f → (h ≡ families.IntAbs → ⊥) → (f ≡ h → ⊥) → class_of t x h ≡ None
-  no_other x f h at other differ = by (class_of t x h) refl
-    where
-      by : (o : Option ℕ) → class_of t x h ≡ o → o ≡ None
-      by None e = refl
-      by (Some n) e = absurd (differ (same_family f h at (member_default x h n (class_found t x h n e) other)))
-
   -- the class by which a column orders is that of its default family
   order_class_is : (x : ColRef) (f : Family) → default_family_of (g.type_of x) ≡ Some f → order_class t x ≡ class_of t x f
-  order_class_is x families.Integer at =
-      ap (option_or (class_of t x families.Integer))
-      (ap₂ option_or (no_other x families.Integer families.Text at (λ e. cc) (λ e. cc)) (no_other x families.Integer families.Bool at (λ e. cc) (λ e. cc)))
-      ∙ some_or (class_of t x families.Integer)
-  order_class_is x families.IntAbs at = absurd (no_default_abs (g.type_of x) at)
-  order_class_is x families.Text at =
-      ap₂ option_or (no_other x families.Text families.Integer at (λ e. cc) (λ e. cc))
-      (ap (option_or (class_of t x families.Text)) (no_other x families.Text families.Bool at (λ e. cc) (λ e. cc)))
-      ∙ some_or (class_of t x families.Text)
-  order_class_is x families.Bool at =
-      ap₂ (λ (a b : Option ℕ). option_or a (option_or b (class_of t x families.Bool))) (no_other x families.Bool families.Integer at (λ e. cc) (λ e. cc)) (no_other x families.Bool families.Text at (λ e. cc) (λ e. cc))
+  order_class_is = plain_class_is g typed t.classes is.classes
 
   -- a class that has a column in its default family is the one by which the column orders
   pub record OrderClass (x : ColRef) (k : Class) : Type 0 where

@@ -55,7 +55,7 @@ use Rattle.group_reader.specs.declared.written.Column.{Column}
 use Rattle.group_reader.specs.declared.written.Listed.{Listed}
 use Rattle.group_reader.specs.declared.written.Listed.TheVariants.{Columns, OverRows, OverColumn}
 use Rattle.group_reader.specs.declared.written.Sorting.{Sorting}
-use Rattle.group_reader.specs.Binding.{BoundLists, base_with, column_by_call, column_of_part, grouped_with, is_bool, is_grouped, item_in, none_of, over_column, over_rows, shown_columns, ungrouped_items, ungrouped_part}
+use Rattle.group_reader.specs.Binding.{BoundLists, base_with, column_by_call, column_of_part, grouped_with, has_no_least, is_grouped, item_in, none_of, over_column, over_rows, shown_columns, ungrouped_items, ungrouped_part}
 use Rattle.group_reader.specs.work.Meaning.{column_by, column_call, column_meant, keys_said, known, last_word, list_said, listed_said, lists_said, part_alone, shown_at, sorting_said, then_parts}
 use Rattle.group_reader.specs.work.Selected.{IsGroupedByItself}
 use Rattle.group_reader.proofs.AddLemmas.{was-conveyed}
@@ -291,7 +291,7 @@ module _ (c : Contents) (range : Range) (are : AreRelations c range) where
         let b = stepped (column_meant (scope_of c range) k) (λ (y : ColRef). known n.token (over_column n.bytes (type_of y) y)) a.value a.first in
         let m = known-call n.token (over_column n.bytes (type_of b.value) b.value) a.value b.second in
         let at : p ≡ parts.Called m.item = in-alone p a.value ps a.second i ∙ m.is in
-        let named = over-by (bytes_eq n.bytes (codes "count")) (is_bool (type_of b.value)) (bytes_eq n.bytes (codes "min")) (bytes_eq n.bytes (codes "max")) b.value m.item m.found in
+        let named = over-by (bytes_eq n.bytes (codes "count")) (has_no_least (type_of b.value)) (bytes_eq n.bytes (codes "min")) (bytes_eq n.bytes (codes "max")) b.value m.item m.found in
         let it : Some b.value ≡ Some x = sym named ∙ (sym (ap column_of_part at) ∙ names) in
         let one : b.value ≡ x = cc (it) in
         subst (IsColumnOf c range) one (column-by k.qualifier k.name b.value b.first)
@@ -334,7 +334,7 @@ module _ (scope : Scope) (type_of : ColRef → SqlType) where
       let q = known-call m.token (over_column m.bytes (type_of b.value) b.value) a.value b.second in
       let at : parts.Called (Key n) ≡ parts.Called q.item = in-alone (parts.Called (Key n)) a.value ps a.second i ∙ q.is in
       let one : Key n ≡ q.item = cc (at) in
-      let named = over-by (bytes_eq m.bytes (codes "count")) (is_bool (type_of b.value)) (bytes_eq m.bytes (codes "min")) (bytes_eq m.bytes (codes "max")) b.value q.item q.found in
+      let named = over-by (bytes_eq m.bytes (codes "count")) (has_no_least (type_of b.value)) (bytes_eq m.bytes (codes "min")) (bytes_eq m.bytes (codes "max")) b.value q.item q.found in
       key-names-none n b.value (ap column_by_call one ∙ named)
 
   pub no-key : (ls : List Listed) (ps : List Part) → list_said scope type_of ls ≡ Ok ps → (n : ℕ) → IsIn (parts.Called (Key n)) ps → ⊥

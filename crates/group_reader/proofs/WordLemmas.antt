@@ -6,7 +6,7 @@ use Rattle.sql_grammar.specs.Syntax.{Key, Mark, Col, bare, qualified, Output, ev
 use Rattle.sql_grammar.specs.Words.{words_of_argument, words_of_col, words_of_group_by, words_of_order, words_of_grouped_item, words_of_grouped_items, words_of_group_columns, words_of_output}
 use Rattle.sql_grammar.specs.declared.class.Word.TheVariants.{From, Group as GroupKey, Order}
 use Rattle.sql_grammar.specs.declared.class.Symbol.TheVariants.{Close, Comma, Dot, Open, Star}
-use Rattle.sql_grammar.specs.work.Unique.{ends_operand}
+use Rattle.sql_grammar.specs.work.Unique.{ends_col}
 use Rattle.expr_reader.specs.Lists.{further_parts}
 use Rattle.expr_reader.specs.Reading.{spelled}
 use Rattle.expr_reader.specs.work.Reading.{BeginsName, BeginsNot}
@@ -132,7 +132,7 @@ items-listed [] f rest = refl
 items-listed ((m, i) ∷ xs) f rest = refl
 
 -- what stands behind a GROUP BY column
-pub columns-operand : (xs : List (Mark × Col)) (rest : List Terminal) → ends_columns rest ≡ true → ends_operand (words_of_group_columns xs ++ rest) ≡ true
+pub columns-operand : (xs : List (Mark × Col)) (rest : List Terminal) → ends_columns rest ≡ true → ends_col (words_of_group_columns xs ++ rest) ≡ true
 columns-operand ((m, c) ∷ xs) rest ends = refl
 columns-operand [] (t_mark Dot _ ∷ rest) ends = absurd (cc (ends))
 columns-operand [] _ ends = refl

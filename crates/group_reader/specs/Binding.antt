@@ -39,16 +39,17 @@ use Rattle.group_reader.specs.declared.parts.Part.{Part}
 use Rattle.group_reader.specs.declared.parts.Part.TheVariants as parts
 use Rattle.group_reader.specs.Written.{word_of_col, word_of_output}
 
--- the least and the greatest value are not known of truth values
-abbrev pub is_bool : SqlType → Bool
-is_bool types.Bool = true
-is_bool _ = false
+-- there is neither a least nor a greatest value of truth values and of uuids: PostgreSQL 16 has no min and no max of them
+abbrev pub has_no_least : SqlType → Bool
+has_no_least types.Bool = true
+has_no_least types.Uuid = true
+has_no_least _ = false
 
--- a call by its name over a column, of such a type: count of any column, min and max of one that is no truth value
+-- a call by its name over a column, of such a type: count of any column, min and max of one whose type has a least value
 abbrev pub over_column : List ℕ → SqlType → ColRef → Option Item
 over_column name typed x =
     cond (bytes_eq name (codes "count")) (Some (Count x))
-    (cond (is_bool typed) None (cond (bytes_eq name (codes "min")) (Some (Min x)) (cond (bytes_eq name (codes "max")) (Some (Max x)) None)))
+    (cond (has_no_least typed) None (cond (bytes_eq name (codes "min")) (Some (Min x)) (cond (bytes_eq name (codes "max")) (Some (Max x)) None)))
 
 -- a call by its name over all rows
 abbrev pub over_rows : List ℕ → Option Item

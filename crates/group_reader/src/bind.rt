@@ -5,7 +5,7 @@ ghost use Rattle.expr_reader.specs.Lists.{bound_each};
 ghost use Rattle.query_reader.specs.work.Conveys.{Conveys};
 ghost use Rattle.query_reader.specs.work.Scope.{visible_in, types_in};
 ghost use Rattle.group_reader.specs.work.Adds.{AddsParts};
-ghost use Rattle.group_reader.specs.Binding.{is_bool as is_truth, over_column as over_one, over_rows as over_all};
+ghost use Rattle.group_reader.specs.Binding.{has_no_least as has_no_least_of, over_column as over_one, over_rows as over_all};
 ghost use Rattle.group_reader.specs.work.Meaning.{column_call, column_meant, columns_said, known as known_call, list_said, listed_said, shown_at, sorting_column as sorted_by, sorting_said};
 
 use crate::parts::Part;
@@ -49,11 +49,11 @@ fn over_rows(name: &[u8]) -> Option<Shown>
     }
 }
 
-/// Whether values of this type are truth values.
-fn is_bool(typed: SqlType) -> bool
-    ensures { result ≡ is_truth typed }
+/// Whether there is no min and no max of this type.
+fn has_no_least(typed: SqlType) -> bool
+    ensures { result ≡ has_no_least_of typed }
 {
-    matches!(typed, SqlType::Bool)
+    matches!(typed, SqlType::Bool | SqlType::Uuid)
 }
 
 /// The call of a name over a column of this type; None where there is none.
@@ -63,7 +63,7 @@ fn over_column(name: &[u8], typed: SqlType, column: ColRef) -> Option<Shown>
     if name == b"count".as_slice() {
         return Some(Shown::Count(column));
     }
-    if is_bool(typed) {
+    if has_no_least(typed) {
         return None;
     }
     if name == b"min".as_slice() {

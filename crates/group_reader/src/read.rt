@@ -3,7 +3,7 @@
 
 ghost use Rattle.std.specs.Prelude.{◌≡◌, ◌∷◌, ◌≤◌, length, IfOk};
 ghost use Rattle.sql_grammar.specs.Terminals.{t_key};
-ghost use Rattle.sql_grammar.specs.work.Unique.{ends_operand};
+ghost use Rattle.sql_grammar.specs.work.Unique.{ends_col};
 ghost use Rattle.sql_grammar.specs.Words.{words_of_col, words_of_group_by, words_of_group_columns, words_of_grouped_item, words_of_order, words_of_ordering, words_of_orderings};
 ghost use Rattle.sql_grammar.specs.declared.class.Word.TheVariants.{From};
 ghost use Rattle.expr_reader.specs.Lists.{further_parts};
@@ -23,9 +23,9 @@ use std::alloc::Global;
 
 /// The column that is next.
 fn column(alloc: Global, from: &mut Cursor) -> Result<Column, Memory>
-    requires { StandsFirst words_of_col ends_operand from.old }
+    requires { StandsFirst words_of_col ends_col from.old }
     ensures read { IfOk result
-        (λ x. Yields words_of_col ends_operand column_written from.old x from.new) }
+        (λ x. Yields words_of_col ends_col column_written from.old x from.new) }
     ensures ahead { length from.new ≤ length from.old }
 {
     let first = from.expect_name(alloc)?;

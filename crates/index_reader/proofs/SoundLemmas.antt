@@ -2,6 +2,8 @@
 use Rattle.std.proofs.Common.{◌≡◌, ℕ, ◌<◌, ◌≤◌, Bool, true, false, List, [], ◌∷◌, ◌++◌, length, map, drop, take, cond, All, refl, sym, ap, ◌∙◌, subst, arith, Option, Some, None, position, Result, Ok, Err, IfOk, length-append, length-drop, append_assoc}
 use Rattle.std.specs.Option.{option_map}
 use Rattle.std.specs.Str.{bytes_eq}
+use Rattle.std.proofs.lemmas.Bool.{and_from}
+use Rattle.std.proofs.lemmas.Bool.Decides.{Decides-eqb}
 use Rattle.std.proofs.lemmas.List.{length-map}
 use Rattle.std.proofs.lemmas.List.Elements.{All-nil, All-cons, All-append, All-drop, All-take}
 use Rattle.std.proofs.lemmas.List.Quantifiers.{position-Some}
@@ -18,7 +20,10 @@ use Rattle.pg_value.specs.declared.value.SqlType.TheVariants as types
 use Rattle.opfamily.specs.declared.classes.Method.{Method}
 use Rattle.opfamily.specs.declared.classes.Method.TheVariants.{Btree, Hash}
 use Rattle.opfamily.specs.declared.classes.OpClass.{OpClass}
+use Rattle.opfamily.specs.declared.classes.OpClass.TheVariants.{NumericOps}
 use Rattle.opfamily.specs.Answers.{accepted, class_of_name, default_class_of}
+use Rattle.opfamily.specs.work.Answers.{is_for}
+use Rattle.opfamily.proofs.ClassLemmas.{accepted-parts, numeric-own, numeric-takes}
 use Rattle.pg_expr.specs.Cond.{Cond}
 use Rattle.pg_expr.specs.Pushed.{pushed}
 use Rattle.pg_expr.proofs.FormLaws.{pushed-form}
@@ -62,17 +67,32 @@ known-some code token None a is = absurd (cc (is))
 known-some code token (Some b) a is = let same : b ≡ a = cc (is) in ap Some same
 
 -- the class where none is named
+same-scale : (m : Method) (digits scale : ℕ) → is_for (NumericOps scale) m ≡ true → accepted (NumericOps scale) m (types.Numeric digits scale) ≡ true
+same-scale m digits scale for =
+    accepted-parts (NumericOps scale) m (types.Numeric digits scale) ∙
+    and_from _ _ for (numeric-own scale (types.Numeric digits scale) ∙ (numeric-takes scale digits scale ∙ (Decides-eqb scale scale).1 refl))
+
 default-accepted : (m : Method) (s : SqlType) → accepted (given (default_class_of s m)) m s ≡ true
 default-accepted Btree types.Int2 = refl
 default-accepted Btree types.Int4 = refl
 default-accepted Btree types.Int8 = refl
 default-accepted Btree types.Text = refl
 default-accepted Btree types.Bool = refl
+default-accepted Btree types.Uuid = refl
+default-accepted Btree types.Date = refl
+default-accepted Btree types.Timestamp = refl
+default-accepted Btree types.TimestampTz = refl
+default-accepted Btree (types.Numeric digits scale) = same-scale Btree digits scale refl
 default-accepted Hash types.Int2 = refl
 default-accepted Hash types.Int4 = refl
 default-accepted Hash types.Int8 = refl
 default-accepted Hash types.Text = refl
 default-accepted Hash types.Bool = refl
+default-accepted Hash types.Uuid = refl
+default-accepted Hash types.Date = refl
+default-accepted Hash types.Timestamp = refl
+default-accepted Hash types.TimestampTz = refl
+default-accepted Hash (types.Numeric digits scale) = same-scale Hash digits scale refl
 
 class-passed : (b a : Bool) (c k : OpClass) (f g : Fault) → cond b (cond a (Ok c) (Err f)) (Err g) ≡ Ok k → (a ≡ true) × (c ≡ k)
 class-passed false a c k f g is = absurd (cc (is))
@@ -87,7 +107,7 @@ known-accepted token m s (Some c) k is =
 
 class-accepted : (m : Method) (s : SqlType) (c : ClassTree) (k : OpClass) → class_bound m s c ≡ Ok k → accepted k m s ≡ true
 class-accepted m s no_class k is = let same : given (default_class_of s m) ≡ k = cc (is) in subst (λ d. accepted d m s ≡ true) same (default-accepted m s)
-class-accepted m s (op_class n p) k is = known-accepted (token_of n) m s (class_of_name (bytes_of n)) k is
+class-accepted m s (op_class n p) k is = known-accepted (token_of n) m s (class_of_name (bytes_of n) s) k is
 
 -- the first column of a list, and all of them
 first-bound : {B : Type 0} (r : Result B Fault) (rs : Result (List B) Fault) (bs : List B) → before_all r rs ≡ Ok bs → 0 < length bs

@@ -10,7 +10,7 @@ use Rattle.opfamily.specs.declared.classes.Method.{Method}
 use Rattle.opfamily.specs.declared.classes.Method.TheVariants.{Btree, Hash}
 use Rattle.opfamily.specs.declared.classes.OpClass.{OpClass}
 use Rattle.opfamily.specs.declared.classes.OpClass.TheVariants.{TextOps}
-use Rattle.opfamily.specs.Answers.{accepted, class_of_name, class_place, classes, default_class_of, has_method}
+use Rattle.opfamily.specs.Answers.{accepted, class_of_name, class_place, class_scale, classes, default_class_of, has_method}
 use Rattle.sql_lex.specs.declared.tokens.Token.{Token}
 use Rattle.sql_grammar.specs.Terminals.{Ident, token_of}
 use Rattle.sql_grammar.specs.Faults.{bytes_of, fault_at}
@@ -40,7 +40,7 @@ method_bound (using_method k n) = next (known S8 (token_of n) (method_of_name (b
 
 -- the class has the method, for columns of some type
 abbrev pub class_has_method : OpClass → Method → Bool
-class_has_method c m = list_any (λ listed. nat_eq (class_place listed.class) (class_place c) && has_method listed m) classes
+class_has_method c m = list_any (λ listed. nat_eq (class_place listed.class) (class_place c) && has_method listed m) (classes (class_scale c))
 
 -- a class that is named: one that is unknown or has not the method is an error as an unknown one, any other that does not
 -- accept the column's type as a wrong type
@@ -56,7 +56,7 @@ given (Some c) = c
 -- the class of a key column of this type: the one that is named, else the default one
 abbrev pub class_bound : Method → SqlType → ClassTree → Result OpClass Fault
 class_bound m t no_class = Ok (given (default_class_of t m))
-class_bound m t (op_class n _) = class_known (token_of n) m t (class_of_name (bytes_of n))
+class_bound m t (op_class n _) = class_known (token_of n) m t (class_of_name (bytes_of n) t)
 
 -- a key column with its name's token: its column is bound, then its operator class
 abbrev pub key_bound : Contents → TableNo → Method → KeyTree → Result KeyRead Fault

@@ -22,9 +22,9 @@ fn has_method(c: OpClass, m: Method) -> bool
 /// The class of this name for a column of this type. An unknown one, and one that the method has not, is refused (42704) at
 /// its name; any other that does not accept the type (42804) too.
 fn class_of(name: &Spelled, m: Method, t: SqlType) -> Result<OpClass, Fault>
-    ensures { result ≡ class_known name.now.token m t (class_of_name name.now.bytes) }
+    ensures { result ≡ class_known name.now.token m t (class_of_name name.now.bytes t) }
 {
-    let Some(class) = class_named(name.bytes.items()) else {
+    let Some(class) = class_named(name.bytes.items(), t) else {
         return Err(fault_at(Code::S8, name.token));
     };
     if !has_method(class, m) {

@@ -15,7 +15,7 @@ use Rattle.sql_grammar.specs.declared.class.Free.TheVariants.{Nulls}
 use Rattle.sql_grammar.specs.Faults.{bytes_of}
 use Rattle.sql_grammar.specs.Terminals.{Terminal, Ident, free, token_of, t_key, t_mark, t_name, t_semicolon, t_end}
 use Rattle.sql_grammar.specs.Syntax.{Mark, Col, bare, qualified, Direction, no_direction, ascending, descending, NullsEnd, no_nulls_end, nulls_first, nulls_last, Ordering, ordering, OrderBy, no_order, order_by}
-use Rattle.sql_grammar.specs.work.Unique.{ends_operand}
+use Rattle.sql_grammar.specs.work.Unique.{ends_col}
 use Rattle.sql_grammar.specs.Words.{words_of_col, words_of_direction, words_of_nulls_end, words_of_ordering, words_of_orderings, words_of_order}
 use Rattle.expr_reader.specs.Lists.{further_parts, bound_each}
 use Rattle.expr_reader.specs.declared.cursor.Spelled.{Spelled}
@@ -59,11 +59,11 @@ ends-direction no_nulls_end _ ends = refl
 ends-direction (nulls_first n f) rest ends = refl
 ends-direction (nulls_last n l) rest ends = refl
 
-ends-bare : (rest : List Terminal) → ends_ordering rest ≡ true → ends_operand rest ≡ true
+ends-bare : (rest : List Terminal) → ends_ordering rest ≡ true → ends_col rest ≡ true
 ends-bare (t_mark Dot _ ∷ rest) ends = absurd (cc (ends))
 ends-bare _ ends = refl
 
-ends-column : (d : Direction) (z : NullsEnd) (rest : List Terminal) → ends_ordering rest ≡ true → ends_operand ((words_of_direction d ++ words_of_nulls_end z) ++ rest) ≡ true
+ends-column : (d : Direction) (z : NullsEnd) (rest : List Terminal) → ends_ordering rest ≡ true → ends_col ((words_of_direction d ++ words_of_nulls_end z) ++ rest) ≡ true
 ends-column no_direction no_nulls_end rest ends = ends-bare rest ends
 ends-column no_direction (nulls_first n f) rest ends = refl
 ends-column no_direction (nulls_last n l) rest ends = refl
@@ -71,7 +71,7 @@ ends-column (ascending k) z rest ends = refl
 ends-column (descending k) z rest ends = refl
 
 -- an item begins with its column
-pub column-words : (o : Ordering) (rest old : List Terminal) → ends_ordering rest ≡ true → old ≡ words_of_ordering o ++ rest → (c : Col) × (more : List Terminal) × (ends_operand more ≡ true) × (old ≡ words_of_col c ++ more)
+pub column-words : (o : Ordering) (rest old : List Terminal) → ends_ordering rest ≡ true → old ≡ words_of_ordering o ++ rest → (c : Col) × (more : List Terminal) × (ends_col more ≡ true) × (old ≡ words_of_col c ++ more)
 column-words (ordering c d z) rest old ends is =
     let sort = words_of_direction d ++ words_of_nulls_end z in
     (c, sort ++ rest, ends-column d z rest ends, is ∙ append_assoc (words_of_col c) sort rest)
@@ -93,11 +93,11 @@ pub record QualifiedCol (c : Col) (rest : List Terminal) (s : Spelled) (left : L
   pub says : s ≡ spelled qualifier
   pub words : left ≡ t_name name ∷ rest
 
-pub qualified-col : (c : Col) (rest old mid left : List Terminal) (s : Spelled) (t : Token) → ends_operand rest ≡ true → BeginsName s old mid → mid ≡ t_mark Dot t ∷ left → old ≡ words_of_col c ++ rest → QualifiedCol c rest s left
+pub qualified-col : (c : Col) (rest old mid left : List Terminal) (s : Spelled) (t : Token) → ends_col rest ≡ true → BeginsName s old mid → mid ≡ t_mark Dot t ∷ left → old ≡ words_of_col c ++ rest → QualifiedCol c rest s left
 qualified-col (bare n) rest old mid left s t ends (m, says, first) took is =
     let same : t_name m ∷ mid ≡ t_name n ∷ rest = sym first ∙ is in
     let so : t_mark Dot t ∷ left ≡ rest = sym took ∙ cc (same) in
-    let wrong = ap ends_operand so ∙ ends in absurd (cc (wrong))
+    let wrong = ap ends_col so ∙ ends in absurd (cc (wrong))
 qualified-col (qualified q d n) rest old mid left s t ends (m, says, first) took is =
     let same : t_name m ∷ mid ≡ t_name q ∷ t_mark Dot d ∷ t_name n ∷ rest = sym first ∙ is in
     let name : m ≡ q = cc (same) in
@@ -121,7 +121,7 @@ second-name s old left n rest (m, says, first) is =
 module _ (scope : Scope) (select : List ColRef) where
   -- an item whose column is refused
   pub item-stopped : (o : Ordering) (rest old mid new : List Terminal) (e : Refusal) (r : Result OrderItem Refusal) → ends_ordering rest ≡ true → old ≡ words_of_ordering o ++ rest →
-      ((c : Col) (more : List Terminal) → ends_operand more ≡ true → old ≡ words_of_col c ++ more → Reads {T = ColRef} {A = ColRef} (λ x. x) (order_column scope select c) more (Err e) mid) → IsErrAnd r (λ g. g ≡ e) →
+      ((c : Col) (more : List Terminal) → ends_col more ≡ true → old ≡ words_of_col c ++ more → Reads {T = ColRef} {A = ColRef} (λ x. x) (order_column scope select c) more (Err e) mid) → IsErrAnd r (λ g. g ≡ e) →
       Reads (λ i. i) (order_item scope select o) rest r new
   item-stopped (ordering c d z) rest old mid new e r ends is told stop =
       let sort = words_of_direction d ++ words_of_nulls_end z in
@@ -134,7 +134,7 @@ module _ (scope : Scope) (select : List ColRef) where
 
   -- an item that is read
   pub item-read : (o : Ordering) (rest old mid last new : List Terminal) (x : ColRef) (down first : Bool) → ends_ordering rest ≡ true → old ≡ words_of_ordering o ++ rest →
-      ((c : Col) (more : List Terminal) → ends_operand more ≡ true → old ≡ words_of_col c ++ more → Reads (λ x. x) (order_column scope select c) more (Ok x) mid) →
+      ((c : Col) (more : List Terminal) → ends_col more ≡ true → old ≡ words_of_col c ++ more → Reads (λ x. x) (order_column scope select c) more (Ok x) mid) →
       ((d : Direction) (more : List Terminal) → ends_direction more ≡ true → mid ≡ words_of_direction d ++ more → (down ≡ is_descending d) × (last ≡ more)) →
       ((z : NullsEnd) (more : List Terminal) → ends_nulls_end more ≡ true → last ≡ words_of_nulls_end z ++ more → (first ≡ has_nulls_first down z) × (new ≡ more)) →
       Reads (λ i. i) (order_item scope select o) rest (Ok (record { col = x; descending = down; nulls_first = first })) new

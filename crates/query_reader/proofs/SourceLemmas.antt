@@ -22,7 +22,7 @@ use Rattle.pg_expr.specs.declared.operand.Operand.TheVariants.{Col, Lit}
 use Rattle.pg_expr.specs.Columns.{each_column, each_column_of, passes_column}
 use Rattle.pg_expr.specs.Cond.{Cond, compare, is_null, is_not_null, bool_col, const, all_of, any_of, negation, Conds, no_conds, cond_and}
 use Rattle.pg_expr.specs.Truths.{value_of}
-use Rattle.pg_expr.specs.Typed.{some_value, IsTyped, AreTyped}
+use Rattle.pg_expr.specs.Typed.{some_value, type_kind, AreAlike, IsInteger, IsTyped, AreTyped}
 use Rattle.pg_expr.proofs.ColumnLaws.{weaker-each}
 use Rattle.catalog.specs.Contents.{Contents, IsTable, IsLawfulTable, table_at}
 use Rattle.catalog.specs.Range.{Range, aliases, relation_at, type_in, table_of}
@@ -153,12 +153,26 @@ module _ (test : ColRef → Bool) (t u : ColRef → SqlType) (same : (x : ColRef
   same-side (Col c) h = ap some_value (same c h)
   same-side (Lit v) h = refl
 
+  same-alike : (l r : Operand) → passes_column test l ≡ true → passes_column test r ≡ true → AreAlike t l r → AreAlike u l r
+  same-alike (Col c) (Col d) h k alike = ap type_kind (sym (same c h)) ∙ alike ∙ ap type_kind (same d k)
+  same-alike (Col c) (Lit v) h k alike = tt
+  same-alike (Lit v) r h k alike = tt
+
+  same-integer : (o : Operand) → passes_column test o ≡ true → IsInteger t o → IsInteger u o
+  same-integer (Col c) h is = ap type_kind (sym (same c h)) ∙ is
+  same-integer (Lit v) h is = tt
+
   mutual
     pub typed-same : (e : Cond) → each_column test e ≡ true → IsTyped t e → IsTyped u e
     typed-same (compare op l r) h d =
         let parts = and_parts (passes_column test l) (passes_column test r) h in
-        subst (λ (b : Value). AreComparable op (value_of (λ c. some_value (u c)) l) b) (same-side r parts.1)
-        (subst (λ (a : Value). AreComparable op a (value_of (λ c. some_value (t c)) r)) (same-side l parts.0) d)
+        record {
+          comparable =
+              subst (λ (b : Value). AreComparable op (value_of (λ c. some_value (u c)) l) b) (same-side r parts.1)
+              (subst (λ (a : Value). AreComparable op a (value_of (λ c. some_value (t c)) r)) (same-side l parts.0) d.comparable);
+          alike = same-alike l r parts.0 parts.1 d.alike;
+          integers = λ is. (same-integer l parts.0 (d.integers is).0, same-integer r parts.1 (d.integers is).1);
+        }
     typed-same (is_null c) h d = tt
     typed-same (is_not_null c) h d = tt
     typed-same (bool_col c) h d = sym (same c h) ∙ d

@@ -2,7 +2,7 @@
 
 ghost use Rattle.std.specs.Prelude.{◌≤◌, All, IfOk, OnOk, length};
 ghost use Rattle.sql_grammar.specs.Words.{words_of_col, words_of_ordering, words_of_orderings, words_of_order};
-ghost use Rattle.sql_grammar.specs.work.Unique.{ends_operand};
+ghost use Rattle.sql_grammar.specs.work.Unique.{ends_col};
 ghost use Rattle.query_reader.specs.work.Ends.{ends_order, ends_ordering};
 ghost use Rattle.query_reader.specs.work.Scope.{visible_in, IsSeenColumn};
 ghost use Rattle.expr_reader.specs.work.Reading.{StandsFirst, StandsListed};
@@ -23,7 +23,7 @@ fn order_column(
     select: &ColumnPlaces,
     from: &mut Cursor,
 ) -> Result<ColRef, Refusal>
-    requires { StandsFirst words_of_col ends_operand from.old }
+    requires { StandsFirst words_of_col ends_col from.old }
     ensures read { ReadsOrderColumn (visible_in relations.now) select.now from.old result from.new }
     ensures ahead { length from.new ≤ length from.old }
 {

@@ -2,7 +2,7 @@
 use Rattle.std.proofs.Common.{◌≡◌, ℕ, true, [], ◌∷◌, get_or, refl, sym, ap, ◌∙◌, nat_eq}
 use Rattle.std.proofs.lemmas.Bool.{eqb-true}
 use Rattle.sql_grammar.specs.declared.class.Free.{Free}
-use Rattle.sql_grammar.specs.declared.class.Free.TheVariants.{Advise, Analyze, Between, By, Check, Common, Copy, Csv, Distinct, Explain, First, Format, Full, Histogram, In, Include, Index, Last, Left, Natural, Nulls, Outer, Pages, Plan, Right, Rows, Statistics, Stdin, Use}
+use Rattle.sql_grammar.specs.declared.class.Free.TheVariants.{Advise, Analyze, Between, By, Character, Check, Common, Copy, Csv, Distinct, Explain, First, Format, Full, Histogram, In, Include, Index, Last, Left, Natural, Nulls, Outer, Pages, Plan, Right, Rows, Statistics, Stdin, Time, Timestamp, Use, Varying, Without, Zone}
 use Rattle.sql_grammar.specs.declared.class.Word.{Word}
 use Rattle.sql_grammar.specs.declared.class.Word.TheVariants.{And, As, Asc, Create, Cross, Desc, False, From, Group, Inner, Is, Join, Limit, Not, Null, Offset, On, Or, Order, Select, Table, True, Using, Where, With}
 use Rattle.sql_grammar.specs.declared.class.Symbol.{Symbol}
@@ -30,7 +30,7 @@ pub same_sign : (v w : Symbol) → nat_eq (sign_code v) (sign_code w) ≡ true �
 same_sign v w e = sym (sign_back v) ∙ (ap sign_at (eqb-true (sign_code v) (sign_code w) e) ∙ sign_back w)
 
 abbrev free_at : ℕ → Free
-free_at n = get_or (Advise ∷ Analyze ∷ Between ∷ By ∷ Check ∷ Common ∷ Copy ∷ Csv ∷ Distinct ∷ Explain ∷ First ∷ Format ∷ Full ∷ Histogram ∷ In ∷ Include ∷ Index ∷ Last ∷ Left ∷ Natural ∷ Nulls ∷ Outer ∷ Pages ∷ Plan ∷ Right ∷ Rows ∷ Statistics ∷ Stdin ∷ Use ∷ []) n Advise
+free_at n = get_or (Advise ∷ Analyze ∷ Between ∷ By ∷ Character ∷ Check ∷ Common ∷ Copy ∷ Csv ∷ Distinct ∷ Explain ∷ First ∷ Format ∷ Full ∷ Histogram ∷ In ∷ Include ∷ Index ∷ Last ∷ Left ∷ Natural ∷ Nulls ∷ Outer ∷ Pages ∷ Plan ∷ Right ∷ Rows ∷ Statistics ∷ Stdin ∷ Time ∷ Timestamp ∷ Use ∷ Varying ∷ Without ∷ Zone ∷ []) n Advise
 
 free_back : (w : Free) → free_at (free_code w) ≡ w
 free_back Advise = refl

@@ -2,15 +2,15 @@
 use Rattle.std.proofs.Common.{◌≡◌, ℕ, ◌+◌, ◌≤◌, true, List, [], ◌∷◌, ◌++◌, None, refl, sym, ap, ◌∙◌, arith, append_assoc, append-nil, nat_le}
 use Rattle.std.proofs.lemmas.Bool.{le-leb}
 use Rattle.sql_lex.specs.declared.tokens.Token.{Token}
-use Rattle.sql_grammar.specs.Terminals.{Terminal, Ident, Said, free, t_key, t_mark, t_name, t_number}
+use Rattle.sql_grammar.specs.Terminals.{Terminal, Ident, Said, free, t_key, t_mark, t_name, t_number, t_quoted}
 use Rattle.sql_grammar.specs.work.Terminals.{class_of}
-use Rattle.sql_grammar.specs.declared.class.Free.TheVariants.{Between, Full, In, Left, Natural, Outer, Right}
+use Rattle.sql_grammar.specs.declared.class.Free.TheVariants.{Full, In, Left, Natural, Outer, Right}
 use Rattle.sql_grammar.specs.declared.class.Word.TheVariants.{And, Is, Not}
 use Rattle.sql_grammar.specs.declared.class.Symbol.TheVariants.{Close, Dot}
 use Rattle.sql_grammar.specs.declared.table.Item.{Item}
-use Rattle.sql_grammar.specs.declared.table.Item.TheVariants.{Keyword, Label, Ends, Nullness, MoreColumns, Negation, MoreAnds, MoreOrs, Closes, NotEnds, AfterName, AfterColumn, AfterTruth, Side, AfterQualifier, Result, MoreResults, AfterResult, MaybeAlias, MoreJoins, MoreGroups, MaybeWhere, MaybeCommon, MoreShares, MaybeHistogram, MoreBounds, Literal, Digits}
-use Rattle.sql_grammar.specs.Syntax.{Key, Mark, IsBareAlias, bare, qualified, yes, no, unknown, Lit, number, negative, quoted, constant, OperandTree, column, literal, Expr, either_of, Ors, no_or, or_conj, Conj, both_of, Ands, no_and, and_neg, Negated, no_not, not_before, Neg, negated, plain, Atom, parens, compare, is_null, is_not_null, in_list, between, column_alone, constant_alone, Nulls, unwritten, not_null, nullable, ColDef, coldef, Output, every, every_of, one, Alias, no_alias, bare_alias, as_alias, Where, no_where, where_expr, Share, share, CommonPart, no_common, common, Histogram, no_histogram, histogram, Ending, semicolon, text_end}
-use Rattle.sql_grammar.specs.Words.{words_of_lit, words_of_operand, words_of_expr, words_of_ors, words_of_conj, words_of_ands, words_of_neg, words_of_atom, words_of_nulls, words_of_coldef, words_of_columns, words_of_output, words_of_outputs, words_of_alias, words_of_where, words_of_share, words_of_shares, words_of_common, words_of_bounds, words_of_histogram, words_of_ending, levels_of_where, levels_of_expr, levels_of_ors, levels_of_conj, levels_of_ands, levels_of_neg, levels_of_atom}
+use Rattle.sql_grammar.specs.declared.table.Item.TheVariants.{Keyword, Ends, Negation, MoreAnds, MoreOrs, Closes, NotEnds, AfterName, AfterColumn, AfterTruth, Side, AfterSide, Result, MoreResults, AfterResult, MaybeAlias, MoreJoins, MoreGroups, MaybeWhere, MaybeCommon, MoreShares, MaybeHistogram, MoreBounds, Literal, Digits}
+use Rattle.sql_grammar.specs.Syntax.{Key, Mark, IsBareAlias, bare, qualified, yes, no, unknown, Lit, number, negative, quoted, constant, OperandTree, column, literal, typed, Expr, either_of, Ors, no_or, or_conj, Conj, both_of, Ands, no_and, and_neg, Negated, no_not, not_before, Neg, negated, plain, Atom, parens, compare, is_null, is_not_null, in_list, between, column_alone, constant_alone, Output, every, every_of, one, Alias, no_alias, bare_alias, as_alias, Where, no_where, where_expr, Share, share, CommonPart, no_common, common, Histogram, no_histogram, histogram, Ending, semicolon, text_end}
+use Rattle.sql_grammar.specs.Words.{words_of_lit, words_of_operand, words_of_expr, words_of_ors, words_of_conj, words_of_ands, words_of_neg, words_of_atom, words_of_output, words_of_outputs, words_of_alias, words_of_where, words_of_share, words_of_shares, words_of_common, words_of_bounds, words_of_histogram, words_of_ending, levels_of_where, levels_of_expr, levels_of_ors, levels_of_conj, levels_of_ands, levels_of_neg, levels_of_atom}
 use Rattle.sql_grammar.specs.work.Table.{takes_of, is_optional}
 use Rattle.sql_grammar.specs.work.Machine.{depth_of, takes_all}
 
@@ -22,20 +22,23 @@ Passes i (t ∷ ts) = takes_of i (class_of t) ≡ None
 column-passes : (ts : List Terminal) → Passes AfterName ts → Passes AfterColumn ts
 column-passes [] p = tt
 column-passes (t_mark Dot _ ∷ ts) p = refl
+column-passes (t_quoted _ ∷ ts) p = refl
 column-passes (_ ∷ ts) p = p
 
 truth-passes : (ts : List Terminal) → Passes AfterName ts → Passes AfterTruth ts
 truth-passes [] p = tt
 truth-passes (t_mark Dot _ ∷ ts) p = refl
+truth-passes (t_quoted _ ∷ ts) p = refl
 truth-passes (t_key Is _ ∷ ts) p = refl
 truth-passes (t_key Not _ ∷ ts) p = absurd (cc (p))
 truth-passes (t_name (free In _) ∷ ts) p = refl
 truth-passes (_ ∷ ts) p = p
 
-pub qualifier-passes : (ts : List Terminal) → Passes AfterName ts → Passes AfterQualifier ts
-qualifier-passes [] p = tt
-qualifier-passes (t_mark Dot _ ∷ ts) p = absurd (cc)
-qualifier-passes (_ ∷ ts) p = refl
+side-passes : (ts : List Terminal) → Passes AfterName ts → Passes AfterSide ts
+side-passes [] p = tt
+side-passes (t_mark Dot _ ∷ ts) p = absurd (cc)
+side-passes (t_quoted _ ∷ ts) p = absurd (cc)
+side-passes (_ ∷ ts) p = refl
 
 -- what follows a conjunction, and what follows an expression
 pub record EndsConj (ts : List Terminal) : Type 0 where
@@ -74,8 +77,8 @@ module _ (limit : ℕ) where
   level-ends s [] = refl
   level-ends s (t ∷ ts) = refl
 
-  pub side : (o : OperandTree) (s : List Item) (ts : List Terminal) → Passes AfterQualifier ts → takes_all limit (words_of_operand o ++ ts) (Side ∷ s) ≡ takes_all limit ts s
-  side (column (bare n)) s ts p = skip AfterQualifier s ts refl p
+  pub side : (o : OperandTree) (s : List Item) (ts : List Terminal) → Passes AfterSide ts → takes_all limit (words_of_operand o ++ ts) (Side ∷ s) ≡ takes_all limit ts s
+  side (column (bare n)) s ts p = skip AfterSide s ts refl p
   side (column (qualified q d n)) s ts p = refl
   side (literal (number n)) s ts p = refl
   side (literal (negative m n)) s ts p = refl
@@ -83,8 +86,9 @@ module _ (limit : ℕ) where
   side (literal (constant yes k)) s ts p = refl
   side (literal (constant no k)) s ts p = refl
   side (literal (constant unknown k)) s ts p = refl
+  side (typed n t) s ts p = refl
 
-  compared : (l : OperandTree) (op : Said) (r : OperandTree) (s : List Item) (ts : List Terminal) → Passes AfterQualifier ts →
+  compared : (l : OperandTree) (op : Said) (r : OperandTree) (s : List Item) (ts : List Terminal) → Passes AfterSide ts →
       takes_all limit (words_of_atom (compare l op r) ++ ts) (Negation ∷ s) ≡ takes_all limit ts s
   compared (column (bare n)) op r s ts p = side r s ts p
   compared (column (qualified q d n)) op r s ts p = side r s ts p
@@ -94,6 +98,7 @@ module _ (limit : ℕ) where
   compared (literal (constant yes k)) op r s ts p = side r s ts p
   compared (literal (constant no k)) op r s ts p = side r s ts p
   compared (literal (constant unknown k)) op r s ts p = side r s ts p
+  compared (typed n t) op r s ts p = side r s ts p
 
   lit : (l : Lit) (s : List Item) (ts : List Terminal) → takes_all limit (words_of_lit l ++ ts) (Literal ∷ s) ≡ takes_all limit ts s
   lit (number n) s ts = refl
@@ -117,12 +122,12 @@ module _ (limit : ℕ) where
       (ap (λ x. takes_all limit (words_of_lit l ++ x) (Literal ∷ MoreBounds ∷ s)) (append_assoc (words_of_bounds ls) (t_mark Close m ∷ []) ts) ∙ bounds l ls m s ts)
 
   -- the two sides behind BETWEEN
-  ranged : (a b : OperandTree) (j : Key) (s : List Item) (ts : List Terminal) → Passes AfterQualifier ts →
+  ranged : (a b : OperandTree) (j : Key) (s : List Item) (ts : List Terminal) → Passes AfterSide ts →
       takes_all limit ((words_of_operand a ++ t_key And j ∷ words_of_operand b) ++ ts) (Side ∷ Keyword And ∷ Side ∷ s) ≡ takes_all limit ts s
   ranged a b j s ts p =
       apart (words_of_operand a) (t_key And j ∷ words_of_operand b) ts _ ∙ (side a (Keyword And ∷ Side ∷ s) (t_key And j ∷ (words_of_operand b ++ ts)) refl ∙ side b s ts p)
 
-  between-sides : (l : OperandTree) (z : Negated) (w : Token) (a : OperandTree) (j : Key) (b : OperandTree) (s : List Item) (ts : List Terminal) → Passes AfterQualifier ts →
+  between-sides : (l : OperandTree) (z : Negated) (w : Token) (a : OperandTree) (j : Key) (b : OperandTree) (s : List Item) (ts : List Terminal) → Passes AfterSide ts →
       takes_all limit (words_of_atom (between tt l z w a j b) ++ ts) (Negation ∷ s) ≡ takes_all limit ts s
   between-sides (column (bare n)) no_not w a j b s ts p = ranged a b j s ts p
   between-sides (column (bare n)) (not_before e) w a j b s ts p = ranged a b j s ts p
@@ -140,6 +145,8 @@ module _ (limit : ℕ) where
   between-sides (literal (constant no k)) (not_before e) w a j b s ts p = ranged a b j s ts p
   between-sides (literal (constant unknown k)) no_not w a j b s ts p = ranged a b j s ts p
   between-sides (literal (constant unknown k)) (not_before e) w a j b s ts p = ranged a b j s ts p
+  between-sides (typed n t) no_not w a j b s ts p = ranged a b j s ts p
+  between-sides (typed n t) (not_before e) w a j b s ts p = ranged a b j s ts p
 
   mutual
     pub expr : (e : Expr) (s : List Item) (ts : List Terminal) → levels_of_expr e + depth_of s ≤ limit → EndsExpr ts →
@@ -177,7 +184,7 @@ module _ (limit : ℕ) where
         let fits : nat_le (depth_of (Negation ∷ MoreAnds ∷ MoreOrs ∷ Closes ∷ s)) limit ≡ true = le-leb _ _ (omega arith) in
         rw fits (apart (words_of_expr e) (t_mark Close m ∷ []) ts (Negation ∷ MoreAnds ∷ MoreOrs ∷ Closes ∷ s) ∙
         expr e (Closes ∷ s) (t_mark Close m ∷ ts) (omega arith) (record { conj = record { atom = refl; ands = refl }; ors = refl }))
-    atom (compare l op r) s ts low p = compared l op r s ts (qualifier-passes ts p)
+    atom (compare l op r) s ts low p = compared l op r s ts (side-passes ts p)
     atom (is_null (bare n) i k) s ts low p = refl
     atom (is_null (qualified q d n) i k) s ts low p = refl
     atom (is_not_null (bare n) i e k) s ts low p = refl
@@ -186,27 +193,12 @@ module _ (limit : ℕ) where
     atom (in_list u (bare n) (not_before e) w o l ls m) s ts low p = listed l ls m s ts
     atom (in_list u (qualified q d n) no_not w o l ls m) s ts low p = listed l ls m s ts
     atom (in_list u (qualified q d n) (not_before e) w o l ls m) s ts low p = listed l ls m s ts
-    atom (between u l z w a j b) s ts low p = between-sides l z w a j b s ts (qualifier-passes ts p)
+    atom (between u l z w a j b) s ts low p = between-sides l z w a j b s ts (side-passes ts p)
     atom (column_alone (bare n)) s ts low p = skip AfterName s ts refl p
     atom (column_alone (qualified q d n)) s ts low p = skip AfterColumn s ts refl (column-passes ts p)
     atom (constant_alone yes k) s ts low p = skip AfterTruth s ts refl (truth-passes ts p)
     atom (constant_alone no k) s ts low p = skip AfterTruth s ts refl (truth-passes ts p)
     atom (constant_alone unknown k) s ts low p = skip AfterTruth s ts refl (truth-passes ts p)
-
-  nulls : (x : Nulls) (s : List Item) (ts : List Terminal) → Passes Nullness ts → takes_all limit (words_of_nulls x ++ ts) (Nullness ∷ s) ≡ takes_all limit ts s
-  nulls unwritten s ts p = skip Nullness s ts refl p
-  nulls (not_null n k) s ts p = refl
-  nulls (nullable k) s ts p = refl
-
-  after-columns : (cs : List (Mark × ColDef)) (m : Mark) (ts : List Terminal) → Passes Nullness (words_of_columns cs ++ t_mark Close m ∷ ts)
-  after-columns [] m ts = refl
-  after-columns (c ∷ cs) m ts = refl
-
-  pub columns : (c : ColDef) (cs : List (Mark × ColDef)) (m : Mark) (s : List Item) (ts : List Terminal) →
-      takes_all limit (words_of_coldef c ++ (words_of_columns cs ++ t_mark Close m ∷ ts)) (Label ∷ Label ∷ Nullness ∷ MoreColumns ∷ s) ≡ takes_all limit ts s
-  columns (coldef n t x) [] m s ts = nulls x (MoreColumns ∷ s) (t_mark Close m ∷ ts) refl
-  columns (coldef n t x) ((comma, c) ∷ cs) m s ts =
-      nulls x (MoreColumns ∷ s) (words_of_columns ((comma, c) ∷ cs) ++ t_mark Close m ∷ ts) refl ∙ (apart (words_of_coldef c) (words_of_columns cs) (t_mark Close m ∷ ts) _ ∙ columns c cs m s ts)
 
   pub alone : (e : Expr) → levels_of_expr e ≤ limit → takes_all limit (words_of_expr e) (Negation ∷ MoreAnds ∷ MoreOrs ∷ []) ≡ true
   alone e low = ap (λ l. takes_all limit l (Negation ∷ MoreAnds ∷ MoreOrs ∷ [])) (sym (append-nil (words_of_expr e))) ∙

@@ -7,15 +7,15 @@ use Rattle.sql_lex.specs.declared.tokens.Kind.TheVariants.{Word as WordKind, Num
 use Rattle.sql_grammar.specs.declared.class.Free.{Free}
 use Rattle.sql_grammar.specs.declared.class.Free.TheVariants.{Between, In}
 use Rattle.sql_grammar.specs.declared.class.Word.{Word}
-use Rattle.sql_grammar.specs.declared.class.Word.TheVariants.{And, False, Is, Not, Null, True}
-use Rattle.sql_grammar.specs.declared.class.Symbol.TheVariants.{Open, Close, Comma, Dot, Minus}
+use Rattle.sql_grammar.specs.declared.class.Word.TheVariants.{And, Is, Not, Null}
+use Rattle.sql_grammar.specs.declared.class.Symbol.TheVariants.{Open, Close, Comma, Dot}
 use Rattle.sql_grammar.specs.declared.offered.TheConstants.{READS_LISTS}
-use Rattle.sql_grammar.specs.Terminals.{Terminal, Ident, free, token_of, t_key, t_mark, t_name, t_number, t_quoted, t_operator}
+use Rattle.sql_grammar.specs.Terminals.{Terminal, Ident, Said, free, token_of, t_key, t_mark, t_name, t_quoted, t_operator}
 use Rattle.sql_grammar.specs.Reading.{terminal_by, word_terminal, symbol_terminal, ident_of, free_of, reserved_of, bytes_of_token}
 use Rattle.sql_grammar.specs.Faults.{terminals}
-use Rattle.sql_grammar.specs.Syntax.{IsOffered, Mark, Lit, bare, qualified, yes, no, unknown, number, negative, quoted, constant, OperandTree, column, literal, Expr, either_of, Ors, no_or, or_conj, Conj, both_of, Ands, no_and, and_neg, Negated, no_not, not_before, Neg, negated, plain, Atom, parens, compare, is_null, is_not_null, in_list, between, column_alone, constant_alone}
-use Rattle.sql_grammar.specs.work.Unique.{token_in, ends_operand, ends_atom, ends_conj, ends_expr, is_parens, front, tail}
-use Rattle.sql_grammar.specs.Words.{words_of_lit, words_of_bounds, words_of_negated, words_of_col, words_of_operand, words_of_expr, words_of_ors, words_of_conj, words_of_ands, words_of_neg, words_of_atom}
+use Rattle.sql_grammar.specs.Syntax.{IsOffered, Mark, Col, Lit, bare, qualified, yes, no, unknown, number, negative, quoted, constant, OperandTree, column, literal, typed, Expr, either_of, Ors, no_or, or_conj, Conj, both_of, Ands, no_and, and_neg, no_not, not_before, Neg, negated, plain, Atom, parens, compare, is_null, is_not_null, in_list, between, column_alone, constant_alone}
+use Rattle.sql_grammar.specs.work.Unique.{token_in, ends_col, ends_operand, ends_atom, ends_conj, ends_expr, is_parens, front, tail}
+use Rattle.sql_grammar.specs.Words.{words_of_lit, words_of_bounds, words_of_col, words_of_operand, words_of_expr, words_of_ors, words_of_conj, words_of_ands, words_of_neg, words_of_atom}
 use Rattle.sql_grammar.proofs.ListLemmas.{one_list}
 
 pub named-token : (o : Option Free) (small : List ℕ) (t : Token) → token_of (ident_of o small t) ≡ t
@@ -54,10 +54,12 @@ tokens-are words text ts is = ap (map token_in) is ∙ tokens-of text ts
 
 pub atom-dotless : (x : List Terminal) → ends_atom x ≡ true → ends_operand x ≡ true
 atom-dotless (t_mark Dot _ ∷ x) h = absurd (cc)
+atom-dotless (t_quoted _ ∷ x) h = absurd (cc)
 atom-dotless _ h = refl
 
 pub conj-atom : (x : List Terminal) → ends_conj x ≡ true → ends_atom x ≡ true
 conj-atom (t_mark Dot _ ∷ x) h = absurd (cc)
+conj-atom (t_quoted _ ∷ x) h = absurd (cc)
 conj-atom (t_key Not _ ∷ x) h = absurd (cc)
 conj-atom (t_name (free In _) ∷ x) h = absurd (cc)
 conj-atom (t_name (free Between _) ∷ x) h = absurd (cc)
@@ -67,6 +69,7 @@ conj-atom _ h = refl
 
 pub expr-conj : (x : List Terminal) → ends_expr x ≡ true → ends_conj x ≡ true
 expr-conj (t_mark Dot _ ∷ x) h = absurd (cc)
+expr-conj (t_quoted _ ∷ x) h = absurd (cc)
 expr-conj (t_key Not _ ∷ x) h = absurd (cc)
 expr-conj (t_name (free In _) ∷ x) h = absurd (cc)
 expr-conj (t_name (free Between _) ∷ x) h = absurd (cc)
@@ -87,111 +90,55 @@ ors-end (or_conj k c os) x h = refl
 pub tested : (test : List Terminal → Bool) (x y : List Terminal) → test x ≡ true → test y ≡ false → x ≡ y → ⊥
 tested test x y h k e = let also : true ≡ false = sym h ∙ (ap test e ∙ k) in absurd (cc)
 
--- the kind of an operand, by its first words
-abbrev operand_kind : OperandTree → ℕ
-operand_kind (column (bare n)) = 0
-operand_kind (column (qualified q d n)) = 1
-operand_kind (literal (number n)) = 2
-operand_kind (literal (negative m n)) = 3
-operand_kind (literal (quoted q)) = 4
-operand_kind (literal (constant yes k)) = 5
-operand_kind (literal (constant no k)) = 6
-operand_kind (literal (constant unknown k)) = 7
+operand-col : (x : List Terminal) → ends_operand x ≡ true → ends_col x ≡ true
+operand-col (t_mark Dot _ ∷ x) h = absurd (cc)
+operand-col _ h = refl
 
-abbrev kind_of : List Terminal → ℕ
-kind_of (t_name n ∷ t_mark Dot d ∷ x) = 1
-kind_of (t_name n ∷ x) = 0
-kind_of (t_number n ∷ x) = 2
-kind_of (t_mark Minus m ∷ x) = 3
-kind_of (t_quoted q ∷ x) = 4
-kind_of (t_key True k ∷ x) = 5
-kind_of (t_key False k ∷ x) = 6
-kind_of (t_key Null k ∷ x) = 7
-kind_of _ = 8
+pub one_col : (a b : Col) (x y : List Terminal) → ends_col x ≡ true → ends_col y ≡ true → words_of_col a ++ x ≡ words_of_col b ++ y → (a ≡ b) × (x ≡ y)
+one_col (bare n) (bare m) x y h k e = let name : n ≡ m = cc (e) in (ap bare name, ap (drop 1) e)
+one_col (bare n) (qualified r f m) x y h k e = absurd (tested ends_col x (t_mark Dot f ∷ t_name m ∷ y) h refl (ap (drop 1) e))
+one_col (qualified q d n) (bare m) x y h k e = absurd (tested ends_col y (t_mark Dot d ∷ t_name n ∷ x) k refl (sym (ap (drop 1) e)))
+one_col (qualified q d n) (qualified r f m) x y h k e = let table : q ≡ r = cc (e) in let dot : d ≡ f = cc (e) in let name : n ≡ m = cc (e) in (cc (table, dot, name), ap (drop 3) e)
 
-bare-kind : (n : Ident) (x : List Terminal) → ends_operand x ≡ true → kind_of (t_name n ∷ x) ≡ 0
-bare-kind n [] h = refl
-bare-kind n (t_mark Dot d ∷ x) h = absurd (cc)
-bare-kind n (_ ∷ x) h = refl
+pub one_lit : (a b : Lit) (x y : List Terminal) → words_of_lit a ++ x ≡ words_of_lit b ++ y → (a ≡ b) × (x ≡ y)
+one_lit (number n) (number m) x y e = let same : n ≡ m = cc (e) in (ap number same, ap (drop 1) e)
+one_lit (negative l n) (negative r m) x y e = let minus : l ≡ r = cc (e) in let same : n ≡ m = cc (e) in (cc (minus, same), ap (drop 2) e)
+one_lit (quoted n) (quoted m) x y e = let same : n ≡ m = cc (e) in (ap quoted same, ap (drop 1) e)
+one_lit (constant yes i) (constant yes j) x y e = let same : i ≡ j = cc (e) in (ap (constant yes) same, ap (drop 1) e)
+one_lit (constant no i) (constant no j) x y e = let same : i ≡ j = cc (e) in (ap (constant no) same, ap (drop 1) e)
+one_lit (constant unknown i) (constant unknown j) x y e = let same : i ≡ j = cc (e) in (ap (constant unknown) same, ap (drop 1) e)
+one_lit _ _ x y e = absurd (cc (e))
 
-kind-is : (o : OperandTree) (x : List Terminal) → ends_operand x ≡ true → kind_of (words_of_operand o ++ x) ≡ operand_kind o
-kind-is (column (bare n)) x h = bare-kind n x h
-kind-is (column (qualified q d n)) x h = refl
-kind-is (literal (number n)) x h = refl
-kind-is (literal (negative m n)) x h = refl
-kind-is (literal (quoted q)) x h = refl
-kind-is (literal (constant yes k)) x h = refl
-kind-is (literal (constant no k)) x h = refl
-kind-is (literal (constant unknown k)) x h = refl
+-- a name is next
+abbrev is_named : List Terminal → Bool
+is_named (t_name _ ∷ _) = true
+is_named _ = false
 
-operand-by : (a b : OperandTree) (x y : List Terminal) → operand_kind a ≡ operand_kind b → words_of_operand a ++ x ≡ words_of_operand b ++ y → (a ≡ b) × (x ≡ y)
-operand-by (column (bare n)) (column (bare m)) x y k e = let name : n ≡ m = cc in (cc (name), ap (drop 1) e)
-operand-by (column (qualified q d n)) (column (qualified r f m)) x y k e = let table : q ≡ r = cc in let dot : d ≡ f = cc in let name : n ≡ m = cc in (cc (table, dot, name), ap (drop 3) e)
-operand-by (literal (number n)) (literal (number m)) x y k e = let same : n ≡ m = cc in (cc (same), ap (drop 1) e)
-operand-by (literal (negative l n)) (literal (negative r m)) x y k e = let minus : l ≡ r = cc in let same : n ≡ m = cc in (cc (minus, same), ap (drop 2) e)
-operand-by (literal (quoted n)) (literal (quoted m)) x y k e = let same : n ≡ m = cc in (cc (same), ap (drop 1) e)
-operand-by (literal (constant yes i)) (literal (constant yes j)) x y k e = let same : i ≡ j = cc in (cc (same), ap (drop 1) e)
-operand-by (literal (constant no i)) (literal (constant no j)) x y k e = let same : i ≡ j = cc in (cc (same), ap (drop 1) e)
-operand-by (literal (constant unknown i)) (literal (constant unknown j)) x y k e = let same : i ≡ j = cc in (cc (same), ap (drop 1) e)
-operand-by (column (bare a1)) (column (qualified a2 b2 c2)) x y k e = absurd (omega (arith, k))
-operand-by (column (bare a1)) (literal (number a2)) x y k e = absurd (omega (arith, k))
-operand-by (column (bare a1)) (literal (negative a2 b2)) x y k e = absurd (omega (arith, k))
-operand-by (column (bare a1)) (literal (quoted a2)) x y k e = absurd (omega (arith, k))
-operand-by (column (bare a1)) (literal (constant yes a2)) x y k e = absurd (omega (arith, k))
-operand-by (column (bare a1)) (literal (constant no a2)) x y k e = absurd (omega (arith, k))
-operand-by (column (bare a1)) (literal (constant unknown a2)) x y k e = absurd (omega (arith, k))
-operand-by (column (qualified a1 b1 c1)) (column (bare a2)) x y k e = absurd (omega (arith, k))
-operand-by (column (qualified a1 b1 c1)) (literal (number a2)) x y k e = absurd (omega (arith, k))
-operand-by (column (qualified a1 b1 c1)) (literal (negative a2 b2)) x y k e = absurd (omega (arith, k))
-operand-by (column (qualified a1 b1 c1)) (literal (quoted a2)) x y k e = absurd (omega (arith, k))
-operand-by (column (qualified a1 b1 c1)) (literal (constant yes a2)) x y k e = absurd (omega (arith, k))
-operand-by (column (qualified a1 b1 c1)) (literal (constant no a2)) x y k e = absurd (omega (arith, k))
-operand-by (column (qualified a1 b1 c1)) (literal (constant unknown a2)) x y k e = absurd (omega (arith, k))
-operand-by (literal (number a1)) (column (bare a2)) x y k e = absurd (omega (arith, k))
-operand-by (literal (number a1)) (column (qualified a2 b2 c2)) x y k e = absurd (omega (arith, k))
-operand-by (literal (number a1)) (literal (negative a2 b2)) x y k e = absurd (omega (arith, k))
-operand-by (literal (number a1)) (literal (quoted a2)) x y k e = absurd (omega (arith, k))
-operand-by (literal (number a1)) (literal (constant yes a2)) x y k e = absurd (omega (arith, k))
-operand-by (literal (number a1)) (literal (constant no a2)) x y k e = absurd (omega (arith, k))
-operand-by (literal (number a1)) (literal (constant unknown a2)) x y k e = absurd (omega (arith, k))
-operand-by (literal (negative a1 b1)) (column (bare a2)) x y k e = absurd (omega (arith, k))
-operand-by (literal (negative a1 b1)) (column (qualified a2 b2 c2)) x y k e = absurd (omega (arith, k))
-operand-by (literal (negative a1 b1)) (literal (number a2)) x y k e = absurd (omega (arith, k))
-operand-by (literal (negative a1 b1)) (literal (quoted a2)) x y k e = absurd (omega (arith, k))
-operand-by (literal (negative a1 b1)) (literal (constant yes a2)) x y k e = absurd (omega (arith, k))
-operand-by (literal (negative a1 b1)) (literal (constant no a2)) x y k e = absurd (omega (arith, k))
-operand-by (literal (negative a1 b1)) (literal (constant unknown a2)) x y k e = absurd (omega (arith, k))
-operand-by (literal (quoted a1)) (column (bare a2)) x y k e = absurd (omega (arith, k))
-operand-by (literal (quoted a1)) (column (qualified a2 b2 c2)) x y k e = absurd (omega (arith, k))
-operand-by (literal (quoted a1)) (literal (number a2)) x y k e = absurd (omega (arith, k))
-operand-by (literal (quoted a1)) (literal (negative a2 b2)) x y k e = absurd (omega (arith, k))
-operand-by (literal (quoted a1)) (literal (constant yes a2)) x y k e = absurd (omega (arith, k))
-operand-by (literal (quoted a1)) (literal (constant no a2)) x y k e = absurd (omega (arith, k))
-operand-by (literal (quoted a1)) (literal (constant unknown a2)) x y k e = absurd (omega (arith, k))
-operand-by (literal (constant yes a1)) (column (bare a2)) x y k e = absurd (omega (arith, k))
-operand-by (literal (constant yes a1)) (column (qualified a2 b2 c2)) x y k e = absurd (omega (arith, k))
-operand-by (literal (constant yes a1)) (literal (number a2)) x y k e = absurd (omega (arith, k))
-operand-by (literal (constant yes a1)) (literal (negative a2 b2)) x y k e = absurd (omega (arith, k))
-operand-by (literal (constant yes a1)) (literal (quoted a2)) x y k e = absurd (omega (arith, k))
-operand-by (literal (constant yes a1)) (literal (constant no a2)) x y k e = absurd (omega (arith, k))
-operand-by (literal (constant yes a1)) (literal (constant unknown a2)) x y k e = absurd (omega (arith, k))
-operand-by (literal (constant no a1)) (column (bare a2)) x y k e = absurd (omega (arith, k))
-operand-by (literal (constant no a1)) (column (qualified a2 b2 c2)) x y k e = absurd (omega (arith, k))
-operand-by (literal (constant no a1)) (literal (number a2)) x y k e = absurd (omega (arith, k))
-operand-by (literal (constant no a1)) (literal (negative a2 b2)) x y k e = absurd (omega (arith, k))
-operand-by (literal (constant no a1)) (literal (quoted a2)) x y k e = absurd (omega (arith, k))
-operand-by (literal (constant no a1)) (literal (constant yes a2)) x y k e = absurd (omega (arith, k))
-operand-by (literal (constant no a1)) (literal (constant unknown a2)) x y k e = absurd (omega (arith, k))
-operand-by (literal (constant unknown a1)) (column (bare a2)) x y k e = absurd (omega (arith, k))
-operand-by (literal (constant unknown a1)) (column (qualified a2 b2 c2)) x y k e = absurd (omega (arith, k))
-operand-by (literal (constant unknown a1)) (literal (number a2)) x y k e = absurd (omega (arith, k))
-operand-by (literal (constant unknown a1)) (literal (negative a2 b2)) x y k e = absurd (omega (arith, k))
-operand-by (literal (constant unknown a1)) (literal (quoted a2)) x y k e = absurd (omega (arith, k))
-operand-by (literal (constant unknown a1)) (literal (constant yes a2)) x y k e = absurd (omega (arith, k))
-operand-by (literal (constant unknown a1)) (literal (constant no a2)) x y k e = absurd (omega (arith, k))
+col-named : (c : Col) (x : List Terminal) → is_named (words_of_col c ++ x) ≡ true
+col-named (bare n) x = refl
+col-named (qualified q d n) x = refl
+
+lit-nameless : (l : Lit) (x : List Terminal) → is_named (words_of_lit l ++ x) ≡ false
+lit-nameless (number n) x = refl
+lit-nameless (negative m n) x = refl
+lit-nameless (quoted q) x = refl
+lit-nameless (constant c k) x = refl
+
+-- a column is no typed literal
+untyped : (c : Col) (n : Ident) (t : Said) (x y : List Terminal) → ends_operand x ≡ true → words_of_col c ++ x ≡ t_name n ∷ t_quoted t ∷ y → ⊥
+untyped (bare m) n t x y h e = tested ends_operand x (t_quoted t ∷ y) h refl (ap (drop 1) e)
+untyped (qualified q d m) n t x y h e = absurd (cc (e))
 
 pub one_operand : (a b : OperandTree) (x y : List Terminal) → ends_operand x ≡ true → ends_operand y ≡ true → words_of_operand a ++ x ≡ words_of_operand b ++ y → (a ≡ b) × (x ≡ y)
-one_operand a b x y h k e = operand-by a b x y (sym (kind-is a x h) ∙ (ap kind_of e ∙ kind-is b y k)) e
+one_operand (column c) (column d) x y h k e = let (same, rest) = one_col c d x y (operand-col x h) (operand-col y k) e in (ap column same, rest)
+one_operand (column c) (literal m) x y h k e = absurd (tested is_named (words_of_col c ++ x) (words_of_lit m ++ y) (col-named c x) (lit-nameless m y) e)
+one_operand (column c) (typed n t) x y h k e = absurd (untyped c n t x y h e)
+one_operand (literal l) (column d) x y h k e = absurd (tested is_named (words_of_col d ++ y) (words_of_lit l ++ x) (col-named d y) (lit-nameless l x) (sym e))
+one_operand (literal l) (literal m) x y h k e = let (same, rest) = one_lit l m x y e in (ap literal same, rest)
+one_operand (literal l) (typed n t) x y h k e = absurd (tested is_named (t_name n ∷ t_quoted t ∷ y) (words_of_lit l ++ x) refl (lit-nameless l x) (sym e))
+one_operand (typed n t) (column d) x y h k e = absurd (untyped d n t y x k (sym e))
+one_operand (typed n t) (literal m) x y h k e = absurd (tested is_named (t_name n ∷ t_quoted t ∷ x) (words_of_lit m ++ y) refl (lit-nameless m y) e)
+one_operand (typed n t) (typed m u) x y h k e = let name : n ≡ m = cc (e) in let text : t ≡ u = cc (e) in (cc (name, text), ap (drop 2) e)
 
 pub parted : (a : Atom) (x : List Terminal) → is_parens a ≡ false → words_of_atom a ++ x ≡ words_of_operand (front a) ++ tail a x
 parted (parens o e c) x h = absurd (cc)
@@ -257,27 +204,20 @@ pub one_offered : (b : Bool) (p q : IsOffered b) → p ≡ q
 one_offered true p q = refl
 one_offered false p q = absurd p
 
-pub one_lit : (a b : Lit) (x y : List Terminal) → ends_operand x ≡ true → ends_operand y ≡ true → words_of_lit a ++ x ≡ words_of_lit b ++ y → (a ≡ b) × (x ≡ y)
-one_lit a b x y h k e = let (first, rest) = one_operand (literal a) (literal b) x y h k e in (cc (first), rest)
-
 -- further literals and what closes them
 abbrev pub bounds_closed : List (Mark × Lit) → Mark → List Terminal → List Terminal
 bounds_closed ls m x = words_of_bounds ls ++ t_mark Close m ∷ x
 
-pub bounds-end : (ls : List (Mark × Lit)) (m : Mark) (x : List Terminal) → ends_operand (bounds_closed ls m x) ≡ true
-bounds-end [] m x = refl
-bounds-end ((t, l) ∷ ls) m x = refl
-
 pub one_bounds : (ls us : List (Mark × Lit)) (m n : Mark) (x y : List Terminal) → bounds_closed ls m x ≡ bounds_closed us n y → (ls ≡ us) × (m ≡ n) × (x ≡ y)
-one_bounds = one_list Lit words_of_lit words_of_bounds (t_mark Close) ends_operand (λ m x. refl)
+one_bounds = one_list Lit words_of_lit words_of_bounds (t_mark Close) (λ x. true) (λ m x. refl)
     (λ t l ls m x. ap (λ v. t_mark Comma t ∷ v) (append_assoc (words_of_lit l) (words_of_bounds ls) (t_mark Close m ∷ x)))
-    (λ m n x y e. cc (e)) (λ m t x y e. absurd (cc (e))) bounds-end one_lit
+    (λ m n x y e. cc (e)) (λ m t x y e. absurd (cc (e))) (λ ls m x. refl) (λ a b x y h k e. one_lit a b x y e)
 
 -- a list behind its `(`
 one_listed : (l k : Lit) (ls ks : List (Mark × Lit)) (m n : Mark) (x y : List Terminal) → words_of_lit l ++ bounds_closed ls m x ≡ words_of_lit k ++ bounds_closed ks n y →
     (l ≡ k) × (ls ≡ ks) × (m ≡ n) × (x ≡ y)
 one_listed l k ls ks m n x y e =
-    let (first, more) = one_lit l k (bounds_closed ls m x) (bounds_closed ks n y) (bounds-end ls m x) (bounds-end ks n y) e in
+    let (first, more) = one_lit l k (bounds_closed ls m x) (bounds_closed ks n y) e in
     let (others, close, rest) = one_bounds ls ks m n x y more in
     (first, others, close, rest)
 
@@ -349,6 +289,7 @@ opens-operand (literal (quoted q)) x = refl
 opens-operand (literal (constant yes k)) x = refl
 opens-operand (literal (constant no k)) x = refl
 opens-operand (literal (constant unknown k)) x = refl
+opens-operand (typed n t) x = refl
 
 opens-flat : (a : Atom) (x : List Terminal) → is_parens a ≡ false → opens (words_of_atom a ++ x) ≡ 0
 opens-flat a x h = ap opens (parted a x h) ∙ opens-operand (front a) (tail a x)

@@ -3,12 +3,12 @@ use Rattle.std.proofs.Common.{◌≡◌, ℕ, ◌+◌, ◌≤◌, List, [], ◌�
 use Rattle.sql_lex.specs.declared.tokens.Token.{Token}
 use Rattle.sql_grammar.specs.Terminals.{Terminal, t_key, t_mark, t_name, t_number, t_quoted, t_semicolon, Ident, Said, free}
 use Rattle.sql_grammar.specs.declared.class.Word.TheVariants.{Create, From, Is, Not, Select as SelectKey}
-use Rattle.sql_grammar.specs.declared.class.Free.TheVariants.{Distinct, Explain, Nulls as NullsWord, Statistics}
+use Rattle.sql_grammar.specs.declared.class.Free.TheVariants.{Character, Distinct, Explain, Nulls as NullsWord, Statistics, Timestamp}
 use Rattle.sql_grammar.specs.declared.class.Symbol.TheVariants.{Close, Comma, Dot}
 use Rattle.sql_grammar.specs.declared.table.Item.{Item}
-use Rattle.sql_grammar.specs.declared.table.Item.TheVariants.{Keyword, Sign, FreeWord, Label, Digits, QuotedText, Whole, Ends, Stop, Query, Nullness, MoreColumns, Result, MoreResults, AfterResult, StarOrLabel, MaybeAlias, MoreJoins, MoreGroups, MaybeWhere, Figures, MaybeCommon, MoreShares, MaybeHistogram, MoreBounds, Literal, Negation, MoreAnds, MoreOrs, Closes, NotEnds, AfterName, AfterColumn, AfterNot, AfterIs, AfterLiteral, AfterTruth, Side, AfterQualifier, MaybeOrder, MoreOrderings, MaybeLimit, MaybeOffset, MaybeDirection, MaybeNulls, FirstOrLast, AfterCreate, MaybeUsing, MaybeClass, MoreKeys, MaybeInclude, MoreNames, AfterExplain, Candidate, MoreCands, AdvisedSelect, MoreAdvised, FirstItem, AfterDistinct, PlainItem, AfterPlain, PlainNext, PlainTail, GroupedItem, AfterGroupedName, MoreGroupedItems, Argument, MaybeGroup, MoreGroupColumns}
-use Rattle.sql_grammar.specs.Syntax.{Key, Mark, Col, Constant, Lit, constant, OperandTree, Ors, Ands, Neg, Atom, Nulls, ColDef, Output, Alias, Join, Group, Where, Select, Share, CommonPart, Histogram, Ending, Statement}
-use Rattle.sql_grammar.specs.Words.{words_of, words_of_col, words_of_lit, words_of_operand, words_of_ors, words_of_ands, words_of_neg, words_of_atom, words_of_nulls, words_of_columns, words_of_output, words_of_outputs, words_of_alias, words_of_joins, words_of_groups, words_of_where, words_of_select, words_of_common, words_of_shares, words_of_histogram, words_of_bounds, words_of_ending, levels_of, levels_of_joins, levels_of_groups, levels_of_where, levels_of_select, levels_of_ors, levels_of_ands, levels_of_neg, levels_of_atom}
+use Rattle.sql_grammar.specs.declared.table.Item.TheVariants.{Keyword, Sign, FreeWord, Label, Digits, QuotedText, Whole, Ends, Stop, Query, ColumnType, MaybeVarying, MaybeModifiers, MoreModifiers, MaybeZone, Nullness, MoreColumns, Result, MoreResults, AfterResult, StarOrLabel, MaybeAlias, MoreJoins, MoreGroups, MaybeWhere, Figures, MaybeCommon, MoreShares, MaybeHistogram, MoreBounds, Literal, Negation, MoreAnds, MoreOrs, Closes, NotEnds, AfterName, AfterColumn, AfterNot, AfterIs, AfterLiteral, AfterTruth, Side, AfterSide, AfterQualifier, MaybeOrder, MoreOrderings, MaybeLimit, MaybeOffset, MaybeDirection, MaybeNulls, FirstOrLast, AfterCreate, MaybeUsing, MaybeClass, MoreKeys, MaybeInclude, MoreNames, AfterExplain, Candidate, MoreCands, AdvisedSelect, MoreAdvised, FirstItem, AfterDistinct, PlainItem, AfterPlain, PlainNext, PlainTail, GroupedItem, AfterGroupedName, MoreGroupedItems, Argument, MaybeGroup, MoreGroupColumns}
+use Rattle.sql_grammar.specs.Syntax.{Key, Mark, Col, Constant, Lit, constant, OperandTree, Ors, Ands, Neg, Atom, Nulls, Modifiers, TypeTree, ColDef, Output, Alias, Join, Group, Where, Select, Share, CommonPart, Histogram, Ending, Statement}
+use Rattle.sql_grammar.specs.Words.{words_of, words_of_col, words_of_lit, words_of_operand, words_of_ors, words_of_ands, words_of_neg, words_of_atom, words_of_nulls, words_of_numbers, words_of_modifiers, words_of_type, words_of_columns, words_of_output, words_of_outputs, words_of_alias, words_of_joins, words_of_groups, words_of_where, words_of_select, words_of_common, words_of_shares, words_of_histogram, words_of_bounds, words_of_ending, levels_of, levels_of_joins, levels_of_groups, levels_of_where, levels_of_select, levels_of_ors, levels_of_ands, levels_of_neg, levels_of_atom}
 use Rattle.sql_grammar.specs.Syntax.{Direction, NullsEnd, Ordering, OrderBy, LimitTree, Offset}
 use Rattle.sql_grammar.specs.Words.{words_of_direction, words_of_nulls_end, words_of_orderings, words_of_order, words_of_limit, words_of_offset}
 use Rattle.sql_grammar.specs.Syntax.{ClassTree, KeyTree, Using, Include}
@@ -66,6 +66,11 @@ kind_of limit depth Whole = within limit depth Statement levels_of words_of
 kind_of limit depth Ends = (Ending, words_of_ending)
 kind_of limit depth Stop = (Token, λ t. t_semicolon t ∷ [])
 kind_of limit depth Query = within limit depth Select levels_of_select words_of_select
+kind_of limit depth ColumnType = (TypeTree, words_of_type)
+kind_of limit depth MaybeVarying = behind (λ ts. (k : Token) (m : Modifiers) → (t : TypeTree) × (words_of_type t ≡ t_name (free Character k) ∷ (ts ++ words_of_modifiers m)))
+kind_of limit depth MaybeModifiers = (Modifiers, words_of_modifiers)
+kind_of limit depth MoreModifiers = closed (List (Mark × Said)) words_of_numbers
+kind_of limit depth MaybeZone = behind (λ ts. (k : Token) (m : Modifiers) → (t : TypeTree) × (words_of_type t ≡ t_name (free Timestamp k) ∷ (words_of_modifiers m ++ ts)))
 kind_of limit depth Nullness = (Nulls, words_of_nulls)
 kind_of limit depth MoreColumns = closed (List (Mark × ColDef)) words_of_columns
 kind_of limit depth Negation = within limit depth Neg levels_of_neg words_of_neg
@@ -77,9 +82,10 @@ kind_of limit depth AfterName = behind (λ ts. (n : Ident) → Atom_after (t_nam
 kind_of limit depth AfterColumn = behind (λ ts. (c : Col) → Atom_after (words_of_col c) ts)
 kind_of limit depth AfterNot = behind (λ ts. (c : Col) (k : Key) → Atom_after (words_of_col c) (t_key Not k ∷ ts))
 kind_of limit depth AfterIs = behind (λ ts. (c : Col) (k : Key) → Atom_after (words_of_col c) (t_key Is k ∷ ts))
-kind_of limit depth AfterLiteral = behind (λ ts. (l : Lit) → Atom_after (words_of_lit l) ts)
+kind_of limit depth AfterLiteral = behind (λ ts. (l : OperandTree) → Atom_after (words_of_operand l) ts)
 kind_of limit depth AfterTruth = behind (λ ts. (c : Constant) (k : Key) → Atom_after (words_of_lit (constant c k)) ts)
 kind_of limit depth Side = (OperandTree, words_of_operand)
+kind_of limit depth AfterSide = behind (λ ts. (n : Ident) → (o : OperandTree) × (words_of_operand o ≡ t_name n ∷ ts))
 kind_of limit depth AfterQualifier = behind (λ ts. (n : Ident) → (c : Col) × (words_of_col c ≡ t_name n ∷ ts))
 kind_of limit depth Result = (Output, words_of_output)
 kind_of limit depth MoreResults = (List (Mark × Output), words_of_outputs)

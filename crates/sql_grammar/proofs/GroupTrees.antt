@@ -8,13 +8,13 @@ use Rattle.sql_grammar.specs.declared.class.Free.TheVariants.{Distinct}
 use Rattle.sql_grammar.specs.declared.offered.TheConstants.{READS_DISTINCT}
 use Rattle.sql_lex.specs.declared.tokens.Token.{Token}
 use Rattle.sql_grammar.specs.Syntax.{Key, Mark, Col, bare, qualified, Output, every, every_of, one, Group, Where, Select, select_from, Ending, semicolon, text_end, OrderBy, no_order, order_by, no_limit, most_rows, no_offset, skipped_rows, WindowTree, window, no_explain, explain, explain_table, OrderedSelect, ordered_select, MaybeExplain, unexplained, explained, Argument, all_rows, of_col, GroupedItem, plain_item, call, GroupBy, no_group_by, group_by, is_call, has_call, is_written, Holds, IsGrouped, GroupedSelect, distinct_select, grouped_select}
-use Rattle.sql_grammar.specs.work.Unique.{ends_operand}
+use Rattle.sql_grammar.specs.work.Unique.{ends_col}
 use Rattle.sql_grammar.specs.Words.{words_of_col, words_of_output, words_of_select, words_of_order, words_of_window, words_of_ending, words_of_ordered, words_of_maybe_explain, words_of_argument, words_of_grouped_item, words_of_grouped_items, words_of_group_columns, words_of_group_by, words_of_grouped}
-use Rattle.sql_grammar.proofs.ExprTrees.{one_offered, tested}
+use Rattle.sql_grammar.proofs.ExprTrees.{one_col, one_offered, tested}
 use Rattle.sql_grammar.proofs.ListLemmas.{one_list}
 use Rattle.sql_grammar.proofs.Trees.{ends_select, fronted, fronted-ends, one_output, one_outputs, one_ending}
 use Rattle.sql_grammar.proofs.FromTrees.{behind, select_words, one_behind}
-use Rattle.sql_grammar.proofs.OrderTrees.{one_col, one_order, order-select, windowed-order, ending-windowed, window-ends}
+use Rattle.sql_grammar.proofs.OrderTrees.{one_order, order-select, windowed-order, ending-windowed, window-ends}
 use Rattle.sql_grammar.proofs.GroupRules.{plain_items, plain-items-words}
 
 one_argument : (a b : Argument) (c d : Mark) (x y : List Terminal) → words_of_argument a ++ t_mark Close c ∷ x ≡ words_of_argument b ++ t_mark Close d ∷ y → (a ≡ b) × (c ≡ d) × (x ≡ y)
@@ -34,9 +34,9 @@ ends_item (t_mark Dot _ ∷ _) = false
 ends_item (t_mark Open _ ∷ _) = false
 ends_item _ = true
 
-item-operand : (x : List Terminal) → ends_item x ≡ true → ends_operand x ≡ true
-item-operand (t_mark Dot _ ∷ _) h = absurd (cc)
-item-operand _ h = refl
+item-col : (x : List Terminal) → ends_item x ≡ true → ends_col x ≡ true
+item-col (t_mark Dot _ ∷ _) h = absurd (cc)
+item-col _ h = refl
 
 -- an item without a call is none with one
 call-apart : (o : Output) (x r : List Terminal) (n : Terminal) (m : Mark) → ends_item x ≡ true → words_of_output o ++ x ≡ n ∷ t_mark Open m ∷ r → ⊥
@@ -46,7 +46,7 @@ call-apart (one (bare q)) x r n m h e = tested ends_item x (t_mark Open m ∷ r)
 call-apart (one (qualified q d c)) x r n m h e = absurd (cc (e))
 
 one_item : (a b : GroupedItem) (x y : List Terminal) → ends_item x ≡ true → ends_item y ≡ true → words_of_grouped_item a ++ x ≡ words_of_grouped_item b ++ y → (a ≡ b) × (x ≡ y)
-one_item (plain_item o) (plain_item u) x y h k e = let (same, rest) = one_output o u x y (item-operand x h) (item-operand y k) e in (ap plain_item same, rest)
+one_item (plain_item o) (plain_item u) x y h k e = let (same, rest) = one_output o u x y (item-col x h) (item-col y k) e in (ap plain_item same, rest)
 one_item (plain_item o) (call m p b d) x y h k e = absurd (call-apart o x _ _ p h e)
 one_item (call n o a c) (plain_item u) x y h k e = absurd (call-apart u y _ _ o k (sym e))
 one_item (call n o a c) (call m p b d) x y h k e =
@@ -74,10 +74,10 @@ ends_columns (t_mark Dot _ ∷ _) = false
 ends_columns (t_mark Comma _ ∷ _) = false
 ends_columns _ = true
 
-columns-operand : (cs : List (Mark × Col)) (x : List Terminal) → ends_columns x ≡ true → ends_operand (words_of_group_columns cs ++ x) ≡ true
-columns-operand [] (t_mark Dot _ ∷ _) h = absurd (cc)
-columns-operand [] _ h = refl
-columns-operand ((m, c) ∷ cs) x h = refl
+columns-col : (cs : List (Mark × Col)) (x : List Terminal) → ends_columns x ≡ true → ends_col (words_of_group_columns cs ++ x) ≡ true
+columns-col [] (t_mark Dot _ ∷ _) h = absurd (cc)
+columns-col [] _ h = refl
+columns-col ((m, c) ∷ cs) x h = refl
 
 one_columns : (cs ds : List (Mark × Col)) (x y : List Terminal) → ends_columns x ≡ true → ends_columns y ≡ true → words_of_group_columns cs ++ x ≡ words_of_group_columns ds ++ y → (cs ≡ ds) × (x ≡ y)
 one_columns [] [] x y h k e = (refl, e)
@@ -85,7 +85,7 @@ one_columns [] ((n, d) ∷ ds) x y h k e = absurd (tested ends_columns x (words_
 one_columns ((m, c) ∷ cs) [] x y h k e = absurd (tested ends_columns y (words_of_group_columns ((m, c) ∷ cs) ++ x) k refl (sym e))
 one_columns ((m, c) ∷ cs) ((n, d) ∷ ds) x y h k e =
     let comma : m ≡ n = cc (e) in
-    let (first, more) = one_col c d (words_of_group_columns cs ++ x) (words_of_group_columns ds ++ y) (columns-operand cs x h) (columns-operand ds y k)
+    let (first, more) = one_col c d (words_of_group_columns cs ++ x) (words_of_group_columns ds ++ y) (columns-col cs x h) (columns-col ds y k)
     (sym (append_assoc (words_of_col c) (words_of_group_columns cs) x) ∙ (ap (drop 1) e ∙ append_assoc (words_of_col d) (words_of_group_columns ds) y)) in
     let (others, rest) = one_columns cs ds x y h k more in
     (cc (comma, first, others), rest)
@@ -129,8 +129,8 @@ one_grouping (group_by k t c cs) no_group_by y z e f h = absurd (tested grouples
 one_grouping (group_by k t c cs) (group_by j u d ds) y z e f h =
     let word : k ≡ j = cc (h) in
     let by' : t ≡ u = cc (h) in
-    let (first, more) = one_col c d (words_of_group_columns cs ++ ordered_end y e) (words_of_group_columns ds ++ ordered_end z f) (columns-operand cs (ordered_end y e) (end-columns y e))
-    (columns-operand ds (ordered_end z f) (end-columns z f))
+    let (first, more) = one_col c d (words_of_group_columns cs ++ ordered_end y e) (words_of_group_columns ds ++ ordered_end z f) (columns-col cs (ordered_end y e) (end-columns y e))
+    (columns-col ds (ordered_end z f) (end-columns z f))
     (sym (append_assoc (words_of_col c) (words_of_group_columns cs) (ordered_end y e)) ∙ (ap (drop 2) h ∙ append_assoc (words_of_col d) (words_of_group_columns ds) (ordered_end z f))) in
     let (others, rest) = one_columns cs ds (ordered_end y e) (ordered_end z f) (end-columns y e) (end-columns z f) more in
     let (order, end) = one_ordered_end y z e f rest in

@@ -4,7 +4,7 @@ use Rattle.std.proofs.lemmas.List.{append_assoc}
 use Rattle.sql_grammar.specs.declared.class.Free.TheVariants.{Include as IncludeWord, Nulls}
 use Rattle.sql_grammar.specs.declared.class.Word.TheVariants.{Where as WhereKey}
 use Rattle.sql_grammar.specs.declared.class.Symbol.TheVariants.{Open, Close, Comma, Dot}
-use Rattle.sql_grammar.specs.Terminals.{Terminal, Ident, free, t_key, t_mark, t_name, t_operator}
+use Rattle.sql_grammar.specs.Terminals.{Terminal, Ident, free, t_key, t_mark, t_name, t_quoted, t_operator}
 use Rattle.sql_grammar.specs.Syntax.{Mark, Where, no_where, where_expr, Ending, semicolon, text_end}
 use Rattle.sql_grammar.specs.Syntax.{Direction, no_direction, ascending, descending, NullsEnd, no_nulls_end, nulls_first, nulls_last}
 use Rattle.sql_grammar.specs.Syntax.{IsClassName, ClassTree, no_class, op_class, KeyTree, index_key, Using, no_using, using_method, Include, no_include, include_columns, CreateIndex, index_on, Cand, cand_on}
@@ -116,6 +116,7 @@ cand-where _ h = refl
 
 cand-expr : (x : List Terminal) → ends_cand x ≡ true → ends_expr x ≡ true
 cand-expr (t_mark Dot _ ∷ _) h = absurd (cc)
+cand-expr (t_quoted _ ∷ _) h = absurd (cc)
 cand-expr (t_operator _ ∷ _) h = absurd (cc)
 cand-expr (t_key _ _ ∷ _) h = absurd (cc)
 cand-expr (t_name _ ∷ _) h = absurd (cc)

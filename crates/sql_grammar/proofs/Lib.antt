@@ -10,6 +10,7 @@ pub mod Sound
 pub mod RoomTests
 pub mod Room
 pub mod Complete
+pub mod TableComplete
 pub mod FromComplete
 pub mod WindowComplete
 pub mod OrderComplete
@@ -26,6 +27,7 @@ pub mod StatementWords
 pub mod ListLemmas
 pub mod StatisticsLemmas
 pub mod Trees
+pub mod TableTrees
 pub mod FromTrees
 pub mod WindowTrees
 pub mod OrderTrees

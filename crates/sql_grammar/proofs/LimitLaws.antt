@@ -1,9 +1,9 @@
 -- Which limits a terminal can be past by itself.
-use Rattle.std.proofs.Common.{◌≡◌, ℕ, Bool, true, false, ◌<◌, List, [], ◌∷◌, length, map, Option, Some, None, refl, sym, ap, ◌∙◌, subst, cond, nat_eq, nat_le}
+use Rattle.std.proofs.Common.{◌≡◌, ℕ, Bool, true, false, ◌<◌, ◌≤◌, List, [], ◌∷◌, length, map, Option, Some, None, refl, sym, ap, ◌∙◌, subst, cond, nat_eq, nat_le}
 use Rattle.std.specs.List.{find}
 use Rattle.std.specs.Str.{bytes_eq}
 use Rattle.std.specs.Char.{to_ascii_lowercase}
-use Rattle.std.proofs.lemmas.Bool.{lt-leb}
+use Rattle.std.proofs.lemmas.Bool.{le-leb, lt-leb}
 use Rattle.std.proofs.lemmas.List.{length-map}
 use Rattle.std.proofs.lemmas.Slice.Eq.{bytes_eq-Decides}
 use Rattle.pg_base.specs.declared.faults.Limit.{Limit}
@@ -91,11 +91,18 @@ word-by None small t is = ap (λ bs. cond (nat_le (length bs) MOST_NAME_BYTES) N
 pub word-limit : (small : List ℕ) (t : Token) → limit_of (word_terminal (reserved_of small) small t) ≡ cond (nat_le (length small) MOST_NAME_BYTES) None (Some Name)
 word-limit small t = word-by (reserved_of small) small t refl
 
+-- a word's bytes are counted, capital letters or not
+counted : (kind : Kind) (bytes : List ℕ) (t : Token) → kind ≡ WordKind → limit_of (terminal_by kind bytes t) ≡ cond (nat_le (length bytes) MOST_NAME_BYTES) None (Some Name)
+counted kind bytes t is =
+    ap (λ k. limit_of (terminal_by k bytes t)) is ∙ (word-limit (map to_ascii_lowercase bytes) t ∙ ap (λ n. cond (nat_le n MOST_NAME_BYTES) None (Some Name)) (length-map bytes to_ascii_lowercase))
+
 -- a word of more bytes than a name may have is past that limit
 pub long-word : (kind : Kind) (bytes : List ℕ) (t : Token) → kind ≡ WordKind → MOST_NAME_BYTES < length bytes → limit_of (terminal_by kind bytes t) ≡ Some Name
-long-word kind bytes t is long =
-    let over : nat_le (length (map to_ascii_lowercase bytes)) MOST_NAME_BYTES ≡ false = ap (λ n. nat_le n MOST_NAME_BYTES) (length-map bytes to_ascii_lowercase) ∙ lt-leb _ _ long in
-    ap (λ k. limit_of (terminal_by k bytes t)) is ∙ (word-limit (map to_ascii_lowercase bytes) t ∙ ap (λ b. cond b None (Some Name)) over)
+long-word kind bytes t is long = counted kind bytes t is ∙ ap (λ b. cond b None (Some Name)) (lt-leb _ _ long)
+
+-- any other word is past no limit
+pub brief-word : (kind : Kind) (bytes : List ℕ) (t : Token) → kind ≡ WordKind → length bytes ≤ MOST_NAME_BYTES → limit_of (terminal_by kind bytes t) ≡ None
+brief-word kind bytes t is brief = counted kind bytes t is ∙ ap (λ b. cond b None (Some Name)) (le-leb _ _ brief)
 
 either : (b : Bool) (x y : Terminal) → limit_of x ≡ None → limit_of y ≡ None → limit_of (cond b x y) ≡ None
 either true x y h k = h

@@ -6,12 +6,12 @@ use Rattle.sql_grammar.specs.declared.class.Free.TheVariants.{Nulls}
 use Rattle.sql_grammar.specs.declared.class.Symbol.TheVariants.{Close, Comma, Dot}
 use Rattle.sql_grammar.specs.declared.offered.TheConstants.{READS_TABLE}
 use Rattle.sql_grammar.specs.Terminals.{Terminal, free, t_key, t_mark, t_name, t_semicolon, t_end}
-use Rattle.sql_grammar.specs.Syntax.{Mark, Col, column, Select, select_from, no_limit, most_rows, no_offset, skipped_rows, WindowTree, window, Ending, semicolon, text_end}
+use Rattle.sql_grammar.specs.Syntax.{Mark, Select, select_from, no_limit, most_rows, no_offset, skipped_rows, WindowTree, window, Ending, semicolon, text_end}
 use Rattle.sql_grammar.specs.Syntax.{Direction, no_direction, ascending, descending, NullsEnd, no_nulls_end, nulls_first, nulls_last, Ordering, ordering, OrderBy, no_order, order_by, WindowedSelect, windowed_select, no_explain, explain, explain_table, OrderedSelect, ordered_select}
-use Rattle.sql_grammar.specs.work.Unique.{ends_operand, ends_windowed}
+use Rattle.sql_grammar.specs.work.Unique.{ends_col, ends_windowed}
 use Rattle.sql_grammar.specs.Words.{words_of_col, words_of_select, words_of_window, words_of_ending}
 use Rattle.sql_grammar.specs.Words.{words_of_direction, words_of_nulls_end, words_of_ordering, words_of_orderings, words_of_order, words_of_windowed, words_of_ordered}
-use Rattle.sql_grammar.proofs.ExprTrees.{one_offered, one_operand, tested}
+use Rattle.sql_grammar.proofs.ExprTrees.{one_col, one_offered, tested}
 use Rattle.sql_grammar.proofs.Trees.{ends_select, one_ending}
 use Rattle.sql_grammar.proofs.WindowTrees.{one_window}
 use Rattle.sql_grammar.proofs.FromTrees.{one_select}
@@ -91,19 +91,16 @@ ordering-sort (t_key Desc _ ∷ _) h = absurd (cc)
 ordering-sort (t_name (free Nulls _) ∷ _) h = absurd (cc)
 ordering-sort _ h = refl
 
-ordering-operand : (x : List Terminal) → ends_ordering x ≡ true → ends_operand x ≡ true
-ordering-operand (t_mark Dot _ ∷ _) h = absurd (cc)
-ordering-operand _ h = refl
+ordering-col : (x : List Terminal) → ends_ordering x ≡ true → ends_col x ≡ true
+ordering-col (t_mark Dot _ ∷ _) h = absurd (cc)
+ordering-col _ h = refl
 
-column-ends : (d : Direction) (z : NullsEnd) (x : List Terminal) → ends_ordering x ≡ true → ends_operand ((words_of_direction d ++ words_of_nulls_end z) ++ x) ≡ true
-column-ends no_direction no_nulls_end x h = ordering-operand x h
+column-ends : (d : Direction) (z : NullsEnd) (x : List Terminal) → ends_ordering x ≡ true → ends_col ((words_of_direction d ++ words_of_nulls_end z) ++ x) ≡ true
+column-ends no_direction no_nulls_end x h = ordering-col x h
 column-ends no_direction (nulls_first n f) x h = refl
 column-ends no_direction (nulls_last n l) x h = refl
 column-ends (ascending k) z x h = refl
 column-ends (descending k) z x h = refl
-
-pub one_col : (a b : Col) (x y : List Terminal) → ends_operand x ≡ true → ends_operand y ≡ true → words_of_col a ++ x ≡ words_of_col b ++ y → (a ≡ b) × (x ≡ y)
-one_col a b x y h k e = let (first, rest) = one_operand (column a) (column b) x y h k e in (cc (first), rest)
 
 one_ordering : (o u : Ordering) (x y : List Terminal) → ends_ordering x ≡ true → ends_ordering y ≡ true → words_of_ordering o ++ x ≡ words_of_ordering u ++ y → (o ≡ u) × (x ≡ y)
 one_ordering (ordering c d z) (ordering b f v) x y h k e =

@@ -4,16 +4,16 @@ use Rattle.sql_lex.specs.declared.tokens.Token.{Token}
 use Rattle.sql_lex.specs.declared.tokens.Kind.TheVariants.{End}
 use Rattle.sql_grammar.specs.Terminals.{Terminal, Ident, Said, t_key, t_mark, t_name, t_number, t_quoted, t_operator, t_semicolon, t_end, free, other}
 use Rattle.sql_grammar.specs.work.Terminals.{class_of}
-use Rattle.sql_grammar.specs.declared.class.Free.TheVariants.{Between, Common, Copy, Distinct, Explain, Full, Histogram, In, Left, Natural, Outer, Right, Last, Nulls, Pages, Rows, Statistics, Include as IncludeWord, Index as IndexWord, By, First, Advise as AdviseWord, Analyze, Check, Use}
+use Rattle.sql_grammar.specs.declared.class.Free.TheVariants.{Between, Character, Common, Copy, Distinct, Explain, Full, Histogram, In, Left, Natural, Outer, Right, Last, Nulls, Pages, Rows, Statistics, Include as IncludeWord, Index as IndexWord, By, First, Advise as AdviseWord, Analyze, Check, Time, Timestamp, Use, Varying, Without, Zone}
 use Rattle.sql_grammar.specs.declared.class.Free.{Free as FreeT}
 use Rattle.sql_grammar.specs.declared.class.Word.{Word}
-use Rattle.sql_grammar.specs.declared.class.Word.TheVariants.{And, As, Create, False, Is, Not, Null, Or, Select, Table, True, Where, Using as UsingKey, Asc, Desc, Cross, Inner, On, Limit, Offset, From, Group as GroupKey, Join}
+use Rattle.sql_grammar.specs.declared.class.Word.TheVariants.{And, As, Create, False, Is, Not, Null, Or, Select, Table, True, Where, Using as UsingKey, Asc, Desc, Cross, Inner, On, Limit, Offset, From, Group as GroupKey, Join, With}
 use Rattle.sql_grammar.specs.declared.class.Symbol.{Symbol}
 use Rattle.sql_grammar.specs.declared.class.Symbol.TheVariants.{Open, Close, Comma, Dot, Minus, Star}
 use Rattle.sql_grammar.specs.declared.table.Item.{Item}
-use Rattle.sql_grammar.specs.declared.table.Item.TheVariants.{Keyword, Sign, FreeWord, Label, Digits, QuotedText, Whole, Ends, Stop, Query, Nullness, MoreColumns, Result, MoreResults, AfterResult, StarOrLabel, MaybeAlias, MoreJoins, MoreGroups, MaybeWhere, Figures, MaybeCommon, MoreShares, MaybeHistogram, MoreBounds, Literal, Negation, MoreAnds, MoreOrs, Closes, NotEnds, AfterName, AfterColumn, AfterNot, AfterIs, AfterLiteral, AfterTruth, Side, AfterQualifier, MaybeOrder, MoreOrderings, MaybeLimit, MaybeOffset, MaybeDirection, MaybeNulls, FirstOrLast, AfterCreate, MaybeUsing, MaybeClass, MoreKeys, MaybeInclude, MoreNames, AfterExplain, Candidate, MoreCands, AdvisedSelect, MoreAdvised, FirstItem, AfterDistinct, PlainItem, AfterPlain, PlainNext, PlainTail, GroupedItem, AfterGroupedName, MoreGroupedItems, Argument, MaybeGroup, MoreGroupColumns}
-use Rattle.sql_grammar.specs.Syntax.{bare, qualified, yes, no, unknown, number, negative, quoted, constant, column, literal, either_of, no_or, or_conj, both_of, no_and, and_neg, no_not, not_before, negated, plain, parens, compare, is_null, is_not_null, in_list, between, column_alone, constant_alone, unwritten, not_null, nullable, coldef, every, every_of, one, no_alias, bare_alias, as_alias, relation, group_of, no_where, where_expr, select_from, share, no_common, common, no_histogram, histogram, semicolon, text_end, empty, create_table, copy, sizes, column_statistics, op_class, using_method, include_columns, index_on, create_index, ascending, descending, nulls_first, ordering, no_inner, inner, join_on, cross_join, of_col, call, group_by}
-use Rattle.sql_grammar.specs.Words.{words_of_lit, words_of_bounds, words_of_operand, words_of_ending, words_of_common, words_of_histogram, words_of_coldef, words_of_columns, words_of_index, words_of_direction, words_of_nulls_end, words_of_orderings, words_of_alias, words_of_joins, words_of_neg, words_of_ands, words_of_ors, words_of_select, words_of_order, words_of_limit, words_of_offset, words_of_more_advised, words_of_argument, words_of_group_columns}
+use Rattle.sql_grammar.specs.declared.table.Item.TheVariants.{Keyword, Sign, FreeWord, Label, Digits, QuotedText, Whole, Ends, Stop, Query, ColumnType, MaybeVarying, MaybeModifiers, MoreModifiers, MaybeZone, Nullness, MoreColumns, Result, MoreResults, AfterResult, StarOrLabel, MaybeAlias, MoreJoins, MoreGroups, MaybeWhere, Figures, MaybeCommon, MoreShares, MaybeHistogram, MoreBounds, Literal, Negation, MoreAnds, MoreOrs, Closes, NotEnds, AfterName, AfterColumn, AfterNot, AfterIs, AfterLiteral, AfterTruth, Side, AfterSide, AfterQualifier, MaybeOrder, MoreOrderings, MaybeLimit, MaybeOffset, MaybeDirection, MaybeNulls, FirstOrLast, AfterCreate, MaybeUsing, MaybeClass, MoreKeys, MaybeInclude, MoreNames, AfterExplain, Candidate, MoreCands, AdvisedSelect, MoreAdvised, FirstItem, AfterDistinct, PlainItem, AfterPlain, PlainNext, PlainTail, GroupedItem, AfterGroupedName, MoreGroupedItems, Argument, MaybeGroup, MoreGroupColumns}
+use Rattle.sql_grammar.specs.Syntax.{bare, qualified, yes, no, unknown, number, negative, quoted, constant, column, literal, typed, either_of, no_or, or_conj, both_of, no_and, and_neg, no_not, not_before, negated, plain, parens, compare, is_null, is_not_null, in_list, between, column_alone, constant_alone, unwritten, not_null, nullable, no_modifiers, modifiers, named_type, character_varying, timestamp_with_zone, timestamp_without_zone, coldef, every, every_of, one, no_alias, bare_alias, as_alias, relation, group_of, no_where, where_expr, select_from, share, no_common, common, no_histogram, histogram, semicolon, text_end, empty, create_table, copy, sizes, column_statistics, op_class, using_method, include_columns, index_on, create_index, ascending, descending, nulls_first, ordering, no_inner, inner, join_on, cross_join, of_col, call, group_by}
+use Rattle.sql_grammar.specs.Words.{words_of_lit, words_of_bounds, words_of_operand, words_of_ending, words_of_common, words_of_histogram, words_of_coldef, words_of_modifiers, words_of_columns, words_of_index, words_of_direction, words_of_nulls_end, words_of_orderings, words_of_alias, words_of_joins, words_of_neg, words_of_ands, words_of_ors, words_of_select, words_of_order, words_of_limit, words_of_offset, words_of_more_advised, words_of_argument, words_of_group_columns}
 use Rattle.sql_grammar.specs.Syntax.{no_direction, no_nulls_end, nulls_last, no_order, no_limit, no_offset, window, windowed_select, unexplained, explained, all_rows, plain_item, no_group_by}
 use Rattle.sql_grammar.specs.Syntax.{no_class, index_key, no_using, no_include, cand_on, advised}
 use Rattle.sql_grammar.proofs.Codes.{same_word, same_sign, same_free}
@@ -85,6 +85,21 @@ module _ (limit : ℕ) (s : List Item) (shallow : depth_of s ≤ limit) where
   rule Ends (t_end t) = λ f. ((text_end t, f), refl)
   rule Stop (t_semicolon t) = λ f. ((t, f), refl)
   rule Query (t_key Select k) = λ (o, (os, (from, (n, (a, ((js, ejs), ((gs, egs), ((w, low), f)))))))). (((select_from k o os from (group_of (relation n a) js) gs w, omega arith), f), simp append_assoc)
+  rule ColumnType (t_name (free Character k)) = λ ((ts, after'), (m, f)). (
+    ((after' k m).0, f),
+    ap (λ l. l ++ words_of_parts limit s f) (after' k m).1 ∙ ap (λ l. t_name (free Character k) ∷ l) (append_assoc ts (words_of_modifiers m) (words_of_parts limit s f)),
+  )
+  rule ColumnType (t_name (free Timestamp k)) = λ (m, ((ts, after'), f)). (
+    ((after' k m).0, f),
+    ap (λ l. l ++ words_of_parts limit s f) (after' k m).1 ∙ ap (λ l. t_name (free Timestamp k) ∷ l) (append_assoc (words_of_modifiers m) ts (words_of_parts limit s f)),
+  )
+  rule ColumnType (t_name n) = λ (m, f). ((named_type n m, f), refl)
+  rule MaybeVarying (t_name (free Varying v)) = λ f. (((t_name (free Varying v) ∷ [], λ k m. (character_varying k v m, refl)), f), refl)
+  rule MaybeModifiers (t_mark Open o) = λ (n, ((ns, m), f)). ((modifiers o n ns m, f), simp append_assoc)
+  rule MoreModifiers (t_mark Comma c) = λ (n, ((ns, m), f)). ((((c, n) ∷ ns, m), f), refl)
+  rule MoreModifiers (t_mark Close m) = λ f. ((([], m), f), refl)
+  rule MaybeZone (t_key With w) = λ (t, (z, f)). (((t_key With w ∷ t_name (free Time t) ∷ t_name (free Zone z) ∷ [], λ k m. (timestamp_with_zone k m w t z, refl)), f), refl)
+  rule MaybeZone (t_name (free Without w)) = λ (t, (z, f)). (((t_name (free Without w) ∷ t_name (free Time t) ∷ t_name (free Zone z) ∷ [], λ k m. (timestamp_without_zone k m w t z, refl)), f), refl)
   rule Nullness (t_key Not n) = λ (k, f). ((not_null n k, f), refl)
   rule Nullness (t_key Null k) = λ f. ((nullable k, f), refl)
   rule MoreColumns (t_mark Comma m) = λ (c, (y, (nulls, ((cs, close), f)))). ((((m, coldef c y nulls) ∷ cs, close), f), simp append_assoc)
@@ -92,9 +107,9 @@ module _ (limit : ℕ) (s : List Item) (shallow : depth_of s ≤ limit) where
   rule Negation (t_key Not k) = λ ((n, en), (_, f)). (((negated k n, omega arith), f), refl)
   rule Negation (t_mark Open m) = λ ((n, en), ((ns, ens), ((os, eos), (close, f)))). (((plain (parens m (either_of (both_of n ns) os) close), omega arith), f), simp append_assoc)
   rule Negation (t_name n) = λ ((ws, after'), f). atom_rule (t_name n) ws f (after' n)
-  rule Negation (t_number n) = λ ((ws, after'), f). atom_rule (t_number n) ws f (after' (number n))
-  rule Negation (t_quoted q) = λ ((ws, after'), f). atom_rule (t_quoted q) ws f (after' (quoted q))
-  rule Negation (t_mark Minus m) = λ (n, ((ws, after'), f)). atom_rule (t_mark Minus m) (t_number n ∷ ws) f (after' (negative m n))
+  rule Negation (t_number n) = λ ((ws, after'), f). atom_rule (t_number n) ws f (after' (literal (number n)))
+  rule Negation (t_quoted q) = λ ((ws, after'), f). atom_rule (t_quoted q) ws f (after' (literal (quoted q)))
+  rule Negation (t_mark Minus m) = λ (n, ((ws, after'), f)). atom_rule (t_mark Minus m) (t_number n ∷ ws) f (after' (literal (negative m n)))
   rule Negation (t_key True k) = λ ((ws, after'), f). atom_rule (t_key True k) ws f (after' yes k)
   rule Negation (t_key False k) = λ ((ws, after'), f). atom_rule (t_key False k) ws f (after' no k)
   rule Negation (t_key Null k) = λ ((ws, after'), f). atom_rule (t_key Null k) ws f (after' unknown k)
@@ -102,6 +117,7 @@ module _ (limit : ℕ) (s : List Item) (shallow : depth_of s ≤ limit) where
   rule MoreOrs (t_key Or k) = λ ((n, en), ((ns, ens), ((os, eos), f))). (((or_conj k (both_of n ns) os, omega arith), f), simp append_assoc)
   rule Closes (t_mark Close m) = λ f. ((m, f), refl)
   rule AfterName (t_mark Dot m) = λ (n, ((ws, after'), f)). (((t_mark Dot m ∷ t_name n ∷ ws, λ q. after' (qualified q m n)), f), refl)
+  rule AfterName (t_quoted q) = λ ((ws, after'), f). (((t_quoted q ∷ ws, λ n. after' (typed n q)), f), refl)
   rule AfterName (t_key Is k) = λ ((ws, after'), f). (((t_key Is k ∷ ws, λ n. after' (bare n) k), f), refl)
   rule AfterName (t_operator op) = λ (r, f). (((t_operator op ∷ words_of_operand r, λ n. (compare (column (bare n)) op r, refl, refl)), f), refl)
   rule AfterName (t_key Not k) = λ ((ws, after'), f). (((t_key Not k ∷ ws, λ n. after' (bare n) k), f), refl)
@@ -116,19 +132,21 @@ module _ (limit : ℕ) (s : List Item) (shallow : depth_of s ≤ limit) where
   rule AfterNot (t_name (free Between w)) = λ (a, (j, (b, f))). (((t_name (free Between w) ∷ (words_of_operand a ++ t_key And j ∷ words_of_operand b), λ c k. (between tt (column c) (not_before k) w a j b, refl, refl)), f), simp append_assoc)
   rule AfterIs (t_key Not n) = λ (k, f). (((t_key Not n ∷ t_key Null k ∷ [], λ c i. (is_not_null c i n k, refl, refl)), f), refl)
   rule AfterIs (t_key Null k) = λ f. (((t_key Null k ∷ [], λ c i. (is_null c i k, refl, refl)), f), refl)
-  rule AfterLiteral (t_operator op) = λ (r, f). (((t_operator op ∷ words_of_operand r, λ l. (compare (literal l) op r, refl, refl)), f), refl)
-  rule AfterLiteral (t_key Not k) = λ (w, (a, (j, (b, f)))). (((t_key Not k ∷ t_name (free Between w) ∷ (words_of_operand a ++ t_key And j ∷ words_of_operand b), λ l. (between tt (literal l) (not_before k) w a j b, refl, refl)), f), simp append_assoc)
-  rule AfterLiteral (t_name (free Between w)) = λ (a, (j, (b, f))). (((t_name (free Between w) ∷ (words_of_operand a ++ t_key And j ∷ words_of_operand b), λ l. (between tt (literal l) no_not w a j b, refl, refl)), f), simp append_assoc)
+  rule AfterLiteral (t_operator op) = λ (r, f). (((t_operator op ∷ words_of_operand r, λ l. (compare l op r, refl, refl)), f), refl)
+  rule AfterLiteral (t_key Not k) = λ (w, (a, (j, (b, f)))). (((t_key Not k ∷ t_name (free Between w) ∷ (words_of_operand a ++ t_key And j ∷ words_of_operand b), λ l. (between tt l (not_before k) w a j b, refl, refl)), f), simp append_assoc)
+  rule AfterLiteral (t_name (free Between w)) = λ (a, (j, (b, f))). (((t_name (free Between w) ∷ (words_of_operand a ++ t_key And j ∷ words_of_operand b), λ l. (between tt l no_not w a j b, refl, refl)), f), simp append_assoc)
   rule AfterTruth (t_operator op) = λ (r, f). (((t_operator op ∷ words_of_operand r, λ c k. (compare (literal (constant c k)) op r, refl, refl)), f), refl)
   rule AfterTruth (t_key Not k) = λ (w, (a, (j, (b, f)))). (((t_key Not k ∷ t_name (free Between w) ∷ (words_of_operand a ++ t_key And j ∷ words_of_operand b), λ c i. (between tt (literal (constant c i)) (not_before k) w a j b, refl, refl)), f), simp append_assoc)
   rule AfterTruth (t_name (free Between w)) = λ (a, (j, (b, f))). (((t_name (free Between w) ∷ (words_of_operand a ++ t_key And j ∷ words_of_operand b), λ c i. (between tt (literal (constant c i)) no_not w a j b, refl, refl)), f), simp append_assoc)
-  rule Side (t_name n) = λ ((ws, after'), f). ((column (after' n).0, f), ap (λ l. l ++ words_of_parts limit s f) (after' n).1)
+  rule Side (t_name n) = λ ((ws, after'), f). (((after' n).0, f), ap (λ l. l ++ words_of_parts limit s f) (after' n).1)
   rule Side (t_number n) = λ f. ((literal (number n), f), refl)
   rule Side (t_quoted q) = λ f. ((literal (quoted q), f), refl)
   rule Side (t_mark Minus m) = λ (n, f). ((literal (negative m n), f), refl)
   rule Side (t_key True k) = λ f. ((literal (constant yes k), f), refl)
   rule Side (t_key False k) = λ f. ((literal (constant no k), f), refl)
   rule Side (t_key Null k) = λ f. ((literal (constant unknown k), f), refl)
+  rule AfterSide (t_mark Dot m) = λ (n, f). (((t_mark Dot m ∷ t_name n ∷ [], λ q. (column (qualified q m n), refl)), f), refl)
+  rule AfterSide (t_quoted q) = λ f. (((t_quoted q ∷ [], λ n. (typed n q, refl)), f), refl)
   rule AfterQualifier (t_mark Dot m) = λ (n, f). (((t_mark Dot m ∷ t_name n ∷ [], λ q. (qualified q m n, refl)), f), refl)
   rule Result (t_mark Star m) = λ f. ((every m, f), refl)
   rule Result (t_name n) = λ ((ws, after'), f). (((after' n).0, f), ap (λ l. l ++ words_of_parts limit s f) (after' n).1)
@@ -273,6 +291,9 @@ module _ (limit : ℕ) (s : List Item) (shallow : depth_of s ≤ limit) where
 
   -- an optional item stands for nothing
   empty_part : (i : Item) → is_optional i ≡ true → (p : Part limit (depth_of s) i) × (words_of_part limit (depth_of s) i p ≡ [])
+  empty_part MaybeVarying o = (([], λ k m. (named_type (free Character k) m, refl)), refl)
+  empty_part MaybeModifiers o = (no_modifiers, refl)
+  empty_part MaybeZone o = (([], λ k m. (named_type (free Timestamp k) m, ap (λ l. t_name (free Timestamp k) ∷ l) (sym (append-nil (words_of_modifiers m))))), refl)
   empty_part Nullness o = (unwritten, refl)
   empty_part MoreAnds o = ((no_and, omega arith), refl)
   empty_part MoreOrs o = ((no_or, omega arith), refl)
@@ -280,6 +301,7 @@ module _ (limit : ℕ) (s : List Item) (shallow : depth_of s ≤ limit) where
   empty_part AfterName o = (([], λ n. (column_alone (bare n), refl, refl)), refl)
   empty_part AfterColumn o = (([], λ c. (column_alone c, sym (append-nil _), refl)), refl)
   empty_part AfterTruth o = (([], λ c k. (constant_alone c k, refl, refl)), refl)
+  empty_part AfterSide o = (([], λ n. (column (bare n), refl)), refl)
   empty_part AfterQualifier o = (([], λ n. (bare n, refl)), refl)
   empty_part MoreResults o = ([], refl)
   empty_part AfterResult o = (([], λ n. (one (bare n), refl)), refl)
@@ -319,6 +341,8 @@ module _ (limit : ℕ) (s : List Item) (shallow : depth_of s ≤ limit) where
   needed_part Ends o = semicolon no_place
   needed_part Stop o = no_place
   needed_part Query o = (select_from no_place (every no_place) [] no_place (group_of (relation a_name no_alias) []) [] no_where, omega arith)
+  needed_part ColumnType o = named_type a_name no_modifiers
+  needed_part MoreModifiers o = ([], no_place)
   needed_part MoreColumns o = ([], no_place)
   needed_part Negation o = (plain (constant_alone yes no_place), omega arith)
   needed_part Closes o = no_place
@@ -327,7 +351,7 @@ module _ (limit : ℕ) (s : List Item) (shallow : depth_of s ≤ limit) where
     λ c k. (between tt (column c) (not_before k) no_place (literal (number (saying (48 ∷ [])))) no_place (literal (number (saying (48 ∷ [])))), refl, refl),
   )
   needed_part AfterIs o = (t_key Null no_place ∷ [], λ c k. (is_null c k no_place, refl, refl))
-  needed_part AfterLiteral o = (t_operator (saying (61 ∷ [])) ∷ t_number (saying (48 ∷ [])) ∷ [], λ l. (compare (literal l) (saying (61 ∷ [])) (literal (number (saying (48 ∷ [])))), refl, refl))
+  needed_part AfterLiteral o = (t_operator (saying (61 ∷ [])) ∷ t_number (saying (48 ∷ [])) ∷ [], λ l. (compare l (saying (61 ∷ [])) (literal (number (saying (48 ∷ [])))), refl, refl))
   needed_part Side o = literal (number (saying (48 ∷ [])))
   needed_part Result o = every no_place
   needed_part StarOrLabel o = (t_mark Star no_place ∷ [], λ n d. (every_of n d no_place, refl))
@@ -341,7 +365,7 @@ module _ (limit : ℕ) (s : List Item) (shallow : depth_of s ≤ limit) where
   needed_part FirstOrLast o = (t_name (free Last no_place) ∷ [], λ k. (nulls_last k no_place, refl))
   needed_part AfterCreate o = (
     t_key Table no_place ∷ t_name a_name ∷ t_mark Open no_place ∷ t_name a_name ∷ t_name a_name ∷ t_mark Close no_place ∷ t_semicolon no_place ∷ [],
-    λ k. (create_table k no_place a_name no_place (coldef a_name a_name unwritten) [] no_place (semicolon no_place), refl, omega arith),
+    λ k. (create_table k no_place a_name no_place (coldef a_name (named_type a_name no_modifiers) unwritten) [] no_place (semicolon no_place), refl, omega arith),
   )
   needed_part MoreKeys o = ([], no_place)
   needed_part MoreNames o = ([], no_place)

@@ -5,7 +5,8 @@ use Rattle.sql_grammar.specs.declared.table.Item.TheVariants.{Whole, Ends, Maybe
 use Rattle.sql_grammar.specs.Syntax.{semicolon, text_end, advise_of, Statement, empty, create_table, create_index, query, copy, sizes, column_statistics, analyze, advise, check, use_plan, unexplained, explained, grouped}
 use Rattle.sql_grammar.specs.Words.{words_of, words_of_histogram, words_of_ending, levels_of}
 use Rattle.sql_grammar.specs.work.Machine.{takes_all}
-use Rattle.sql_grammar.proofs.Complete.{columns, common-values, histograms, after-common, after-histogram, ending}
+use Rattle.sql_grammar.proofs.TableComplete.{columns}
+use Rattle.sql_grammar.proofs.Complete.{common-values, histograms, after-common, after-histogram, ending}
 use Rattle.sql_grammar.proofs.GroupComplete.{ordered, grouped-select}
 use Rattle.sql_grammar.proofs.IndexComplete.{index}
 use Rattle.sql_grammar.proofs.AdviseComplete.{analyzed, advises, checks, plans}

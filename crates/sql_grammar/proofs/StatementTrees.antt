@@ -7,7 +7,8 @@ use Rattle.sql_grammar.specs.Terminals.{Terminal, free, t_key, t_mark, t_name}
 use Rattle.sql_grammar.specs.Syntax.{CopyWords, SizesWords, ColumnWords, Histogram, no_histogram, histogram, select_from, Ending, semicolon, text_end, no_explain, explain, explain_table, ordered_select, index_on, advise_of, Statement, empty, create_table, create_index, query, copy, sizes, column_statistics, analyze, advise, check, use_plan, unexplained, explained, grouped}
 use Rattle.sql_grammar.specs.Words.{words_of_histogram, words_of_ending, words_of}
 use Rattle.sql_grammar.proofs.StatisticsLemmas.{ends_common, ends_histogram, one_common, one_histogram}
-use Rattle.sql_grammar.proofs.Trees.{one_ending, one_table}
+use Rattle.sql_grammar.proofs.Trees.{one_ending}
+use Rattle.sql_grammar.proofs.TableTrees.{one_table}
 use Rattle.sql_grammar.proofs.ExprTrees.{one_offered}
 use Rattle.sql_grammar.proofs.OrderTrees.{one_ordered}
 use Rattle.sql_grammar.proofs.IndexTrees.{one_index}

@@ -5,11 +5,10 @@ use Rattle.sql_lex.specs.declared.tokens.Token.{Token}
 use Rattle.sql_grammar.specs.declared.class.Free.TheVariants.{Common as CommonWord, Histogram as HistogramWord}
 use Rattle.sql_grammar.specs.declared.class.Symbol.TheVariants.{Open, Close, Comma}
 use Rattle.sql_grammar.specs.Terminals.{Terminal, free, t_mark, t_name, t_number}
-use Rattle.sql_grammar.specs.Syntax.{Mark, Lit, literal, Share, share, CommonPart, no_common, common, Histogram, no_histogram, histogram}
-use Rattle.sql_grammar.specs.work.Unique.{ends_operand}
+use Rattle.sql_grammar.specs.Syntax.{Mark, Lit, Share, share, CommonPart, no_common, common, Histogram, no_histogram, histogram}
 use Rattle.sql_grammar.specs.Words.{words_of_lit, words_of_share, words_of_shares, words_of_common, words_of_bounds, words_of_histogram}
 use Rattle.sql_grammar.proofs.ListLemmas.{one_list}
-use Rattle.sql_grammar.proofs.ExprTrees.{bounds_closed, bounds-end, one_bounds, one_lit, tested}
+use Rattle.sql_grammar.proofs.ExprTrees.{bounds_closed, one_bounds, one_lit, tested}
 
 -- no COMMON is next
 abbrev pub ends_common : List Terminal → Bool
@@ -23,7 +22,7 @@ ends_histogram _ = true
 
 one_share : (a b : Share) (x y : List Terminal) → words_of_share a ++ x ≡ words_of_share b ++ y → (a ≡ b) × (x ≡ y)
 one_share (share l n) (share k m) x y e =
-    let (value, rest) = one_lit l k (t_number n ∷ x) (t_number m ∷ y) refl refl
+    let (value, rest) = one_lit l k (t_number n ∷ x) (t_number m ∷ y)
     (sym (append_assoc (words_of_lit l) (t_number n ∷ []) x) ∙ (e ∙ append_assoc (words_of_lit k) (t_number m ∷ []) y)) in
     let part : n ≡ m = cc (rest) in
     (cc (value, part), ap (drop 1) rest)
@@ -69,6 +68,6 @@ one_histogram (histogram i o l ls m) (histogram j p u us n) x y h k e =
     let whole = sym (histogram-words i o l ls m x) ∙ (e ∙ histogram-words j p u us n y) in
     let word : i ≡ j = cc (whole) in
     let mark : o ≡ p = cc (whole) in
-    let (first, more) = one_lit l u (bounds_closed ls m x) (bounds_closed us n y) (bounds-end ls m x) (bounds-end us n y) (ap (drop 2) whole) in
+    let (first, more) = one_lit l u (bounds_closed ls m x) (bounds_closed us n y) (ap (drop 2) whole) in
     let (others, close, rest) = one_bounds ls us m n x y more in
     (cc (word, mark, first, others, close), rest)

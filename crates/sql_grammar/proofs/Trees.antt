@@ -1,69 +1,32 @@
 -- A list of words is spelled by one part of a statement.
-use Rattle.std.proofs.Common.{◌≡◌, Bool, true, false, List, [], ◌∷◌, ◌++◌, drop, refl, sym, ap, ◌∙◌, subst}
+use Rattle.std.proofs.Common.{◌≡◌, Bool, true, false, List, [], ◌∷◌, ◌++◌, drop, refl, sym, ap, subst}
 use Rattle.std.proofs.lemmas.List.{append_assoc}
-use Rattle.sql_grammar.specs.declared.class.Word.TheVariants.{As, Cross, From, Inner, Join, Not, Null, Where as WhereKey}
-use Rattle.sql_grammar.specs.declared.class.Symbol.TheVariants.{Close, Comma, Dot, Star}
+use Rattle.sql_grammar.specs.declared.class.Word.TheVariants.{As, Cross, From, Inner, Join, Where as WhereKey}
+use Rattle.sql_grammar.specs.declared.class.Symbol.TheVariants.{Comma, Dot, Star}
 use Rattle.sql_grammar.specs.Terminals.{Terminal, Ident, free, t_key, t_mark, t_name}
 use Rattle.sql_grammar.specs.declared.class.Free.TheVariants.{Full, Left, Natural, Outer, Right}
-use Rattle.sql_grammar.specs.Syntax.{Key, Mark, IsBareAlias, bare, qualified, Nulls, unwritten, not_null, nullable, ColDef, coldef, Output, every, every_of, one, Alias, no_alias, bare_alias, as_alias, Where, no_where, where_expr, Ending, semicolon, text_end}
-use Rattle.sql_grammar.specs.work.Unique.{ends_operand, ends_expr}
-use Rattle.sql_grammar.specs.Words.{words_of_nulls, words_of_coldef, words_of_columns, words_of_output, words_of_outputs, words_of_alias, words_of_where, words_of_ending}
+use Rattle.sql_grammar.specs.Syntax.{Key, Mark, IsBareAlias, bare, qualified, Output, every, every_of, one, Alias, no_alias, bare_alias, as_alias, Where, no_where, where_expr, Ending, semicolon, text_end}
+use Rattle.sql_grammar.specs.work.Unique.{ends_col, ends_expr}
+use Rattle.sql_grammar.specs.Words.{words_of_output, words_of_outputs, words_of_alias, words_of_where, words_of_ending}
 use Rattle.sql_grammar.proofs.ExprTrees.{one_expr, tested}
 use Rattle.sql_grammar.proofs.ListLemmas.{one_list}
 
--- nothing that goes on a column's definition is next
-abbrev ends_nulls : List Terminal → Bool
-ends_nulls (t_key Not _ ∷ _) = false
-ends_nulls (t_key Null _ ∷ _) = false
-ends_nulls _ = true
-
-one_nulls : (a b : Nulls) (x y : List Terminal) → ends_nulls x ≡ true → ends_nulls y ≡ true → words_of_nulls a ++ x ≡ words_of_nulls b ++ y → (a ≡ b) × (x ≡ y)
-one_nulls unwritten unwritten x y h k e = (refl, e)
-one_nulls unwritten (not_null m n) x y h k e = absurd (tested ends_nulls x (t_key Not m ∷ t_key Null n ∷ y) h refl e)
-one_nulls unwritten (nullable n) x y h k e = absurd (tested ends_nulls x (t_key Null n ∷ y) h refl e)
-one_nulls (not_null m n) unwritten x y h k e = absurd (tested ends_nulls y (t_key Not m ∷ t_key Null n ∷ x) k refl (sym e))
-one_nulls (not_null m n) (not_null p q) x y h k e = let a : m ≡ p = cc in let b : n ≡ q = cc in (cc (a, b), ap (drop 2) e)
-one_nulls (not_null m n) (nullable q) x y h k e = absurd (cc)
-one_nulls (nullable n) unwritten x y h k e = absurd (tested ends_nulls y (t_key Null n ∷ x) k refl (sym e))
-one_nulls (nullable n) (not_null p q) x y h k e = absurd (cc)
-one_nulls (nullable n) (nullable q) x y h k e = let b : n ≡ q = cc in (ap nullable b, ap (drop 1) e)
-
-one_coldef : (c d : ColDef) (x y : List Terminal) → ends_nulls x ≡ true → ends_nulls y ≡ true → words_of_coldef c ++ x ≡ words_of_coldef d ++ y → (c ≡ d) × (x ≡ y)
-one_coldef (coldef n t a) (coldef m u b) x y h k e =
-    let (nulls, rest) = one_nulls a b x y h k (ap (drop 2) e) in
-    let name : n ≡ m = cc in
-    let kind : t ≡ u = cc in
-    (ap (λ i. coldef i t a) name ∙ (ap (λ i. coldef m i a) kind ∙ ap (λ i. coldef m u i) nulls), rest)
-
--- further columns and what closes them
-abbrev closed : List (Mark × ColDef) → Mark → List Terminal → List Terminal
-closed cs m x = words_of_columns cs ++ t_mark Close m ∷ x
-
-ends-closed : (cs : List (Mark × ColDef)) (m : Mark) (x : List Terminal) → ends_nulls (closed cs m x) ≡ true
-ends-closed [] m x = refl
-ends-closed ((t, c) ∷ cs) m x = refl
-
-one_columns : (cs ds : List (Mark × ColDef)) (m n : Mark) (x y : List Terminal) → closed cs m x ≡ closed ds n y → (cs ≡ ds) × (m ≡ n) × (x ≡ y)
-one_columns = one_list ColDef words_of_coldef words_of_columns (t_mark Close) ends_nulls (λ m x. refl)
-    (λ t c cs m x. ap (λ l. t_mark Comma t ∷ l) (append_assoc (words_of_coldef c) (words_of_columns cs) (t_mark Close m ∷ x)))
-    (λ m n x y e. cc (e)) (λ m t x y e. absurd (cc (e))) ends-closed one_coldef
-
-pub one_output : (a b : Output) (x y : List Terminal) → ends_operand x ≡ true → ends_operand y ≡ true → words_of_output a ++ x ≡ words_of_output b ++ y → (a ≡ b) × (x ≡ y)
+pub one_output : (a b : Output) (x y : List Terminal) → ends_col x ≡ true → ends_col y ≡ true → words_of_output a ++ x ≡ words_of_output b ++ y → (a ≡ b) × (x ≡ y)
 one_output (every s) (every t) x y h k e = let star : s ≡ t = cc in (ap every star, ap (drop 1) e)
 one_output (every s) (every_of m f t) x y h k e = absurd (cc)
 one_output (every s) (one (bare m)) x y h k e = absurd (cc)
 one_output (every s) (one (qualified r f m)) x y h k e = absurd (cc)
 one_output (every_of n d s) (every t) x y h k e = absurd (cc)
 one_output (every_of n d s) (every_of m f t) x y h k e = let name : n ≡ m = cc in let dot : d ≡ f = cc in let star : s ≡ t = cc in (cc (name, dot, star), ap (drop 3) e)
-one_output (every_of n d s) (one (bare m)) x y h k e = absurd (tested ends_operand y (t_mark Dot d ∷ t_mark Star s ∷ x) k refl (sym (ap (drop 1) e)))
+one_output (every_of n d s) (one (bare m)) x y h k e = absurd (tested ends_col y (t_mark Dot d ∷ t_mark Star s ∷ x) k refl (sym (ap (drop 1) e)))
 one_output (every_of n d s) (one (qualified r f m)) x y h k e = absurd (cc)
 one_output (one (bare n)) (every t) x y h k e = absurd (cc)
-one_output (one (bare n)) (every_of m f t) x y h k e = absurd (tested ends_operand x (t_mark Dot f ∷ t_mark Star t ∷ y) h refl (ap (drop 1) e))
+one_output (one (bare n)) (every_of m f t) x y h k e = absurd (tested ends_col x (t_mark Dot f ∷ t_mark Star t ∷ y) h refl (ap (drop 1) e))
 one_output (one (bare n)) (one (bare m)) x y h k e = let name : n ≡ m = cc in (ap (λ i. one (bare i)) name, ap (drop 1) e)
-one_output (one (bare n)) (one (qualified r f m)) x y h k e = absurd (tested ends_operand x (t_mark Dot f ∷ t_name m ∷ y) h refl (ap (drop 1) e))
+one_output (one (bare n)) (one (qualified r f m)) x y h k e = absurd (tested ends_col x (t_mark Dot f ∷ t_name m ∷ y) h refl (ap (drop 1) e))
 one_output (one (qualified q d n)) (every t) x y h k e = absurd (cc)
 one_output (one (qualified q d n)) (every_of m f t) x y h k e = absurd (cc)
-one_output (one (qualified q d n)) (one (bare m)) x y h k e = absurd (tested ends_operand y (t_mark Dot d ∷ t_name n ∷ x) k refl (sym (ap (drop 1) e)))
+one_output (one (qualified q d n)) (one (bare m)) x y h k e = absurd (tested ends_col y (t_mark Dot d ∷ t_name n ∷ x) k refl (sym (ap (drop 1) e)))
 one_output (one (qualified q d n)) (one (qualified r f m)) x y h k e =
     let table : q ≡ r = cc in
     let dot : d ≡ f = cc in
@@ -74,12 +37,12 @@ one_output (one (qualified q d n)) (one (qualified r f m)) x y h k e =
 abbrev pub fronted : List (Mark × Output) → Key → List Terminal → List Terminal
 fronted os f x = words_of_outputs os ++ t_key From f ∷ x
 
-pub fronted-ends : (os : List (Mark × Output)) (f : Key) (x : List Terminal) → ends_operand (fronted os f x) ≡ true
+pub fronted-ends : (os : List (Mark × Output)) (f : Key) (x : List Terminal) → ends_col (fronted os f x) ≡ true
 fronted-ends [] f x = refl
 fronted-ends ((m, o) ∷ os) f x = refl
 
 pub one_outputs : (os us : List (Mark × Output)) (f g : Key) (x y : List Terminal) → fronted os f x ≡ fronted us g y → (os ≡ us) × (f ≡ g) × (x ≡ y)
-one_outputs = one_list Output words_of_output words_of_outputs (t_key From) ends_operand (λ f x. refl)
+one_outputs = one_list Output words_of_output words_of_outputs (t_key From) ends_col (λ f x. refl)
     (λ m o os f x. ap (λ l. t_mark Comma m ∷ l) (append_assoc (words_of_output o) (words_of_outputs os) (t_key From f ∷ x)))
     (λ f g x y e. cc (e)) (λ f m x y e. absurd (cc (e))) fronted-ends one_output
 
@@ -100,7 +63,7 @@ abbrev pub whereless : List Terminal → Bool
 whereless (t_key WhereKey _ ∷ x) = false
 whereless _ = true
 
--- nothing that goes on a join is next: no name, AS, dot, operator, IS, AND or OR
+-- nothing that goes on a join is next: no name or AS, and nothing that goes on an expression
 abbrev pub ends_join : List Terminal → Bool
 ends_join (t_name _ ∷ _) = false
 ends_join (t_key As _ ∷ _) = false
@@ -193,13 +156,3 @@ one_alias (bare_alias n p) (as_alias j m) x y h k e = absurd (cc)
 one_alias (as_alias i n) no_alias x y h k e = absurd (tested aliasless y (t_key As i ∷ t_name n ∷ x) k refl (sym e))
 one_alias (as_alias i n) (bare_alias m q) x y h k e = absurd (cc)
 one_alias (as_alias i n) (as_alias j m) x y h k e = let key : i ≡ j = cc in let name : n ≡ m = cc in (cc (key, name), ap (drop 2) e)
-
--- a new table's columns and end
-abbrev columns_words : ColDef → List (Mark × ColDef) → Mark → Ending → List Terminal
-columns_words c cs m e = words_of_coldef c ++ closed cs m (words_of_ending e)
-
-pub one_table : (c d : ColDef) (cs ds : List (Mark × ColDef)) (m n : Mark) (e f : Ending) → columns_words c cs m e ≡ columns_words d ds n f → (c ≡ d) × (cs ≡ ds) × (m ≡ n) × (e ≡ f)
-one_table c d cs ds m n e f h =
-    let (first, more) = one_coldef c d (closed cs m (words_of_ending e)) (closed ds n (words_of_ending f)) (ends-closed cs m (words_of_ending e)) (ends-closed ds n (words_of_ending f)) h in
-    let (others, mark, last) = one_columns cs ds m n (words_of_ending e) (words_of_ending f) more in
-    (first, others, mark, one_ending e f last)

@@ -1,5 +1,5 @@
 -- Which terminal a token is, by its bytes (PostgreSQL manual, chapter SQL Syntax, Lexical Structure).
-use Rattle.std.specs.Prelude.{ℕ, ◌-◌, Bool, true, false, List, [], ◌∷◌, length, map, take, drop, slice_range, Option, Some, None, cond, nat_eq}
+use Rattle.std.specs.Prelude.{ℕ, ◌-◌, Bool, true, false, List, [], ◌∷◌, codes, length, map, take, drop, slice_range, Option, Some, None, cond, nat_eq}
 use Rattle.std.specs.List.{find}
 use Rattle.std.specs.Str.{bytes_eq}
 use Rattle.std.specs.Char.{to_ascii_lowercase}
@@ -9,69 +9,75 @@ use Rattle.sql_lex.specs.declared.tokens.Kind.TheVariants.{Word as WordKind, Num
 use Rattle.sql_grammar.specs.declared.class.Word.{Word}
 use Rattle.sql_grammar.specs.declared.class.Word.TheVariants.{And, As, Asc, Create, Cross, Desc, False, From, Group, Inner, Is, Join, Limit, Not, Null, Offset, On, Or, Order, Select, Table, True, Using, Where, With}
 use Rattle.sql_grammar.specs.declared.class.Free.{Free}
-use Rattle.sql_grammar.specs.declared.class.Free.TheVariants.{Advise, Analyze, Between, By, Check, Common, Copy, Csv, Distinct, Explain, First, Format, Full, Histogram, In, Include, Index, Last, Left, Natural, Nulls, Outer, Pages, Plan, Right, Rows, Statistics, Stdin, Use}
+use Rattle.sql_grammar.specs.declared.class.Free.TheVariants.{Advise, Analyze, Between, By, Character, Check, Common, Copy, Csv, Distinct, Explain, First, Format, Full, Histogram, In, Include, Index, Last, Left, Natural, Nulls, Outer, Pages, Plan, Right, Rows, Statistics, Stdin, Time, Timestamp, Use, Varying, Without, Zone}
 use Rattle.sql_grammar.specs.declared.class.Symbol.TheVariants.{Open, Close, Comma, Dot, Minus, Star}
 use Rattle.sql_grammar.specs.Terminals.{Ident, free, other, Terminal, t_key, t_mark, t_name, t_number, t_quoted, t_operator, t_semicolon, t_end}
 
 -- the reserved words in small letters
 abbrev pub spelling_of : Word → List ℕ
-spelling_of And = 97 ∷ 110 ∷ 100 ∷ []
-spelling_of As = 97 ∷ 115 ∷ []
-spelling_of Asc = 97 ∷ 115 ∷ 99 ∷ []
-spelling_of Create = 99 ∷ 114 ∷ 101 ∷ 97 ∷ 116 ∷ 101 ∷ []
-spelling_of Cross = 99 ∷ 114 ∷ 111 ∷ 115 ∷ 115 ∷ []
-spelling_of Desc = 100 ∷ 101 ∷ 115 ∷ 99 ∷ []
-spelling_of False = 102 ∷ 97 ∷ 108 ∷ 115 ∷ 101 ∷ []
-spelling_of From = 102 ∷ 114 ∷ 111 ∷ 109 ∷ []
-spelling_of Group = 103 ∷ 114 ∷ 111 ∷ 117 ∷ 112 ∷ []
-spelling_of Inner = 105 ∷ 110 ∷ 110 ∷ 101 ∷ 114 ∷ []
-spelling_of Is = 105 ∷ 115 ∷ []
-spelling_of Join = 106 ∷ 111 ∷ 105 ∷ 110 ∷ []
-spelling_of Limit = 108 ∷ 105 ∷ 109 ∷ 105 ∷ 116 ∷ []
-spelling_of Not = 110 ∷ 111 ∷ 116 ∷ []
-spelling_of Null = 110 ∷ 117 ∷ 108 ∷ 108 ∷ []
-spelling_of Offset = 111 ∷ 102 ∷ 102 ∷ 115 ∷ 101 ∷ 116 ∷ []
-spelling_of On = 111 ∷ 110 ∷ []
-spelling_of Or = 111 ∷ 114 ∷ []
-spelling_of Order = 111 ∷ 114 ∷ 100 ∷ 101 ∷ 114 ∷ []
-spelling_of Select = 115 ∷ 101 ∷ 108 ∷ 101 ∷ 99 ∷ 116 ∷ []
-spelling_of Table = 116 ∷ 97 ∷ 98 ∷ 108 ∷ 101 ∷ []
-spelling_of True = 116 ∷ 114 ∷ 117 ∷ 101 ∷ []
-spelling_of Using = 117 ∷ 115 ∷ 105 ∷ 110 ∷ 103 ∷ []
-spelling_of Where = 119 ∷ 104 ∷ 101 ∷ 114 ∷ 101 ∷ []
-spelling_of With = 119 ∷ 105 ∷ 116 ∷ 104 ∷ []
+spelling_of And = codes "and"
+spelling_of As = codes "as"
+spelling_of Asc = codes "asc"
+spelling_of Create = codes "create"
+spelling_of Cross = codes "cross"
+spelling_of Desc = codes "desc"
+spelling_of False = codes "false"
+spelling_of From = codes "from"
+spelling_of Group = codes "group"
+spelling_of Inner = codes "inner"
+spelling_of Is = codes "is"
+spelling_of Join = codes "join"
+spelling_of Limit = codes "limit"
+spelling_of Not = codes "not"
+spelling_of Null = codes "null"
+spelling_of Offset = codes "offset"
+spelling_of On = codes "on"
+spelling_of Or = codes "or"
+spelling_of Order = codes "order"
+spelling_of Select = codes "select"
+spelling_of Table = codes "table"
+spelling_of True = codes "true"
+spelling_of Using = codes "using"
+spelling_of Where = codes "where"
+spelling_of With = codes "with"
 
 -- the words with a place of their own that may be names, in small letters
 abbrev pub free_spelling_of : Free → List ℕ
-free_spelling_of Advise = 97 ∷ 100 ∷ 118 ∷ 105 ∷ 115 ∷ 101 ∷ []
-free_spelling_of Analyze = 97 ∷ 110 ∷ 97 ∷ 108 ∷ 121 ∷ 122 ∷ 101 ∷ []
-free_spelling_of Between = 98 ∷ 101 ∷ 116 ∷ 119 ∷ 101 ∷ 101 ∷ 110 ∷ []
-free_spelling_of By = 98 ∷ 121 ∷ []
-free_spelling_of Check = 99 ∷ 104 ∷ 101 ∷ 99 ∷ 107 ∷ []
-free_spelling_of Common = 99 ∷ 111 ∷ 109 ∷ 109 ∷ 111 ∷ 110 ∷ []
-free_spelling_of Copy = 99 ∷ 111 ∷ 112 ∷ 121 ∷ []
-free_spelling_of Csv = 99 ∷ 115 ∷ 118 ∷ []
-free_spelling_of Distinct = 100 ∷ 105 ∷ 115 ∷ 116 ∷ 105 ∷ 110 ∷ 99 ∷ 116 ∷ []
-free_spelling_of Explain = 101 ∷ 120 ∷ 112 ∷ 108 ∷ 97 ∷ 105 ∷ 110 ∷ []
-free_spelling_of First = 102 ∷ 105 ∷ 114 ∷ 115 ∷ 116 ∷ []
-free_spelling_of Format = 102 ∷ 111 ∷ 114 ∷ 109 ∷ 97 ∷ 116 ∷ []
-free_spelling_of Full = 102 ∷ 117 ∷ 108 ∷ 108 ∷ []
-free_spelling_of Histogram = 104 ∷ 105 ∷ 115 ∷ 116 ∷ 111 ∷ 103 ∷ 114 ∷ 97 ∷ 109 ∷ []
-free_spelling_of In = 105 ∷ 110 ∷ []
-free_spelling_of Include = 105 ∷ 110 ∷ 99 ∷ 108 ∷ 117 ∷ 100 ∷ 101 ∷ []
-free_spelling_of Index = 105 ∷ 110 ∷ 100 ∷ 101 ∷ 120 ∷ []
-free_spelling_of Last = 108 ∷ 97 ∷ 115 ∷ 116 ∷ []
-free_spelling_of Left = 108 ∷ 101 ∷ 102 ∷ 116 ∷ []
-free_spelling_of Natural = 110 ∷ 97 ∷ 116 ∷ 117 ∷ 114 ∷ 97 ∷ 108 ∷ []
-free_spelling_of Nulls = 110 ∷ 117 ∷ 108 ∷ 108 ∷ 115 ∷ []
-free_spelling_of Outer = 111 ∷ 117 ∷ 116 ∷ 101 ∷ 114 ∷ []
-free_spelling_of Pages = 112 ∷ 97 ∷ 103 ∷ 101 ∷ 115 ∷ []
-free_spelling_of Plan = 112 ∷ 108 ∷ 97 ∷ 110 ∷ []
-free_spelling_of Right = 114 ∷ 105 ∷ 103 ∷ 104 ∷ 116 ∷ []
-free_spelling_of Rows = 114 ∷ 111 ∷ 119 ∷ 115 ∷ []
-free_spelling_of Statistics = 115 ∷ 116 ∷ 97 ∷ 116 ∷ 105 ∷ 115 ∷ 116 ∷ 105 ∷ 99 ∷ 115 ∷ []
-free_spelling_of Stdin = 115 ∷ 116 ∷ 100 ∷ 105 ∷ 110 ∷ []
-free_spelling_of Use = 117 ∷ 115 ∷ 101 ∷ []
+free_spelling_of Advise = codes "advise"
+free_spelling_of Analyze = codes "analyze"
+free_spelling_of Between = codes "between"
+free_spelling_of By = codes "by"
+free_spelling_of Character = codes "character"
+free_spelling_of Check = codes "check"
+free_spelling_of Common = codes "common"
+free_spelling_of Copy = codes "copy"
+free_spelling_of Csv = codes "csv"
+free_spelling_of Distinct = codes "distinct"
+free_spelling_of Explain = codes "explain"
+free_spelling_of First = codes "first"
+free_spelling_of Format = codes "format"
+free_spelling_of Full = codes "full"
+free_spelling_of Histogram = codes "histogram"
+free_spelling_of In = codes "in"
+free_spelling_of Include = codes "include"
+free_spelling_of Index = codes "index"
+free_spelling_of Last = codes "last"
+free_spelling_of Left = codes "left"
+free_spelling_of Natural = codes "natural"
+free_spelling_of Nulls = codes "nulls"
+free_spelling_of Outer = codes "outer"
+free_spelling_of Pages = codes "pages"
+free_spelling_of Plan = codes "plan"
+free_spelling_of Right = codes "right"
+free_spelling_of Rows = codes "rows"
+free_spelling_of Statistics = codes "statistics"
+free_spelling_of Stdin = codes "stdin"
+free_spelling_of Time = codes "time"
+free_spelling_of Timestamp = codes "timestamp"
+free_spelling_of Use = codes "use"
+free_spelling_of Varying = codes "varying"
+free_spelling_of Without = codes "without"
+free_spelling_of Zone = codes "zone"
 
 -- all reserved words
 abbrev pub reserved_words : List Word
@@ -79,7 +85,7 @@ reserved_words = And ∷ As ∷ Asc ∷ Create ∷ Cross ∷ Desc ∷ False ∷ 
 
 -- all words with a place of their own that may be names
 abbrev pub free_words : List Free
-free_words = Advise ∷ Analyze ∷ Between ∷ By ∷ Check ∷ Common ∷ Copy ∷ Csv ∷ Distinct ∷ Explain ∷ First ∷ Format ∷ Full ∷ Histogram ∷ In ∷ Include ∷ Index ∷ Last ∷ Left ∷ Natural ∷ Nulls ∷ Outer ∷ Pages ∷ Plan ∷ Right ∷ Rows ∷ Statistics ∷ Stdin ∷ Use ∷ []
+free_words = Advise ∷ Analyze ∷ Between ∷ By ∷ Character ∷ Check ∷ Common ∷ Copy ∷ Csv ∷ Distinct ∷ Explain ∷ First ∷ Format ∷ Full ∷ Histogram ∷ In ∷ Include ∷ Index ∷ Last ∷ Left ∷ Natural ∷ Nulls ∷ Outer ∷ Pages ∷ Plan ∷ Right ∷ Rows ∷ Statistics ∷ Stdin ∷ Time ∷ Timestamp ∷ Use ∷ Varying ∷ Without ∷ Zone ∷ []
 
 -- the reserved word of this spelling
 abbrev pub reserved_of : List ℕ → Option Word

@@ -37,10 +37,11 @@ pub data Lit : Type 0 where
   quoted : Said → Lit
   constant : Constant → Key → Lit
 
--- operand = col | lit
+-- operand = col | lit | name quoted
 pub data OperandTree : Type 0 where
   column : Col → OperandTree
   literal : Lit → OperandTree
+  typed : Ident → Said → OperandTree
 
 -- [NOT], before IN or BETWEEN
 pub data Negated : Type 0 where
@@ -89,9 +90,21 @@ pub data Nulls : Type 0 where
   not_null : Key → Key → Nulls
   nullable : Key → Nulls
 
--- coldef = name name [NOT NULL | NULL]
+-- [modifiers], modifiers = "(" number { "," number } ")"
+pub data Modifiers : Type 0 where
+  no_modifiers : Modifiers
+  modifiers : Mark → Said → List (Mark × Said) → Mark → Modifiers
+
+-- type = name [modifiers] | CHARACTER VARYING [modifiers] | TIMESTAMP [modifiers] WITH TIME ZONE | TIMESTAMP [modifiers] WITHOUT TIME ZONE
+pub data TypeTree : Type 0 where
+  named_type : Ident → Modifiers → TypeTree
+  character_varying : Token → Token → Modifiers → TypeTree
+  timestamp_with_zone : Token → Modifiers → Key → Token → Token → TypeTree
+  timestamp_without_zone : Token → Modifiers → Token → Token → Token → TypeTree
+
+-- coldef = name type [NOT NULL | NULL]
 pub data ColDef : Type 0 where
-  coldef : Ident → Ident → Nulls → ColDef
+  coldef : Ident → TypeTree → Nulls → ColDef
 
 -- item = "*" | name "." "*" | col
 pub data Output : Type 0 where

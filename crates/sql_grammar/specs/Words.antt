@@ -2,12 +2,12 @@
 -- Commands), and how deep its expressions are nested (own).
 use Rattle.std.specs.Prelude.{ℕ, ◌+◌, max, List, [], ◌∷◌, ◌++◌}
 use Rattle.sql_lex.specs.declared.tokens.Token.{Token}
-use Rattle.sql_grammar.specs.Terminals.{Terminal, Ident, t_key, t_mark, t_name, t_number, t_quoted, t_operator, t_semicolon, t_end, free}
-use Rattle.sql_grammar.specs.declared.class.Free.TheVariants.{Advise as AdviseWord, Analyze, Between, By, Check as CheckWord, Common as CommonWord, Copy, Csv, Distinct, Explain, First, Format, Histogram as HistogramWord, In, Include as IncludeWord, Index as IndexWord, Last, Nulls as NullsWord, Pages, Plan, Rows, Statistics, Stdin, Use}
+use Rattle.sql_grammar.specs.Terminals.{Terminal, Ident, Said, t_key, t_mark, t_name, t_number, t_quoted, t_operator, t_semicolon, t_end, free}
+use Rattle.sql_grammar.specs.declared.class.Free.TheVariants.{Advise as AdviseWord, Analyze, Between, By, Character, Check as CheckWord, Common as CommonWord, Copy, Csv, Distinct, Explain, First, Format, Histogram as HistogramWord, In, Include as IncludeWord, Index as IndexWord, Last, Nulls as NullsWord, Pages, Plan, Rows, Statistics, Stdin, Time, Timestamp, Use, Varying, Without, Zone}
 use Rattle.sql_grammar.specs.declared.class.Word.{Word}
 use Rattle.sql_grammar.specs.declared.class.Word.TheVariants.{And, As, Asc, Create, Cross, Desc, False, From, Group as GroupKey, Inner as InnerKey, Is, Join as JoinKey, Limit as LimitKey, Not, Null, Offset as OffsetKey, On, Or, Order, Select, Table, True, Using as UsingKey, Where as WhereKey, With}
 use Rattle.sql_grammar.specs.declared.class.Symbol.TheVariants.{Open, Close, Comma, Dot, Minus, Star}
-use Rattle.sql_grammar.specs.Syntax.{Col, bare, qualified, Constant, yes, no, unknown, Lit, number, negative, quoted, constant, OperandTree, column, literal, Expr, either_of, Ors, no_or, or_conj, Conj, both_of, Ands, no_and, and_neg, Negated, no_not, not_before, Neg, negated, plain, Atom, parens, compare, is_null, is_not_null, in_list, between, column_alone, constant_alone, Nulls, unwritten, not_null, nullable, ColDef, coldef, Output, every, every_of, one, Alias, no_alias, bare_alias, as_alias, Relation, relation, Inner, no_inner, inner, Join, join_on, cross_join, Group, group_of, Select as SelectTree, select_from, Where, no_where, where_expr, Share, share, CommonPart, no_common, common, Histogram, no_histogram, histogram, Ending, semicolon, text_end, Direction, no_direction, ascending, descending, NullsEnd, no_nulls_end, nulls_first, nulls_last, Ordering, ordering, OrderBy, no_order, order_by, LimitTree, no_limit, most_rows, Offset, no_offset, skipped_rows, WindowTree, window, WindowedSelect, windowed_select, Explaining, no_explain, explain, explain_table, OrderedSelect, ordered_select, MaybeExplain, unexplained, explained, Argument, all_rows, of_col, GroupedItem, plain_item, call, GroupBy, no_group_by, group_by, GroupedSelect, distinct_select, grouped_select, ClassTree, no_class, op_class, KeyTree, index_key, Using, no_using, using_method, Include, no_include, include_columns, CreateIndex, index_on, Cand, cand_on, Advised, advised, Advise, advise_of, Statement, empty, create_table, create_index, query, copy, sizes, column_statistics, analyze, advise, check, use_plan, grouped}
+use Rattle.sql_grammar.specs.Syntax.{Col, bare, qualified, Constant, yes, no, unknown, Lit, number, negative, quoted, constant, OperandTree, column, literal, typed, Expr, either_of, Ors, no_or, or_conj, Conj, both_of, Ands, no_and, and_neg, Negated, no_not, not_before, Neg, negated, plain, Atom, parens, compare, is_null, is_not_null, in_list, between, column_alone, constant_alone, Nulls, unwritten, not_null, nullable, Modifiers, no_modifiers, modifiers, TypeTree, named_type, character_varying, timestamp_with_zone, timestamp_without_zone, ColDef, coldef, Output, every, every_of, one, Alias, no_alias, bare_alias, as_alias, Relation, relation, Inner, no_inner, inner, Join, join_on, cross_join, Group, group_of, Select as SelectTree, select_from, Where, no_where, where_expr, Share, share, CommonPart, no_common, common, Histogram, no_histogram, histogram, Ending, semicolon, text_end, Direction, no_direction, ascending, descending, NullsEnd, no_nulls_end, nulls_first, nulls_last, Ordering, ordering, OrderBy, no_order, order_by, LimitTree, no_limit, most_rows, Offset, no_offset, skipped_rows, WindowTree, window, WindowedSelect, windowed_select, Explaining, no_explain, explain, explain_table, OrderedSelect, ordered_select, MaybeExplain, unexplained, explained, Argument, all_rows, of_col, GroupedItem, plain_item, call, GroupBy, no_group_by, group_by, GroupedSelect, distinct_select, grouped_select, ClassTree, no_class, op_class, KeyTree, index_key, Using, no_using, using_method, Include, no_include, include_columns, CreateIndex, index_on, Cand, cand_on, Advised, advised, Advise, advise_of, Statement, empty, create_table, create_index, query, copy, sizes, column_statistics, analyze, advise, check, use_plan, grouped}
 
 -- a column, with its table's name and a dot before it where that is written
 abbrev pub words_of_col : Col → List Terminal
@@ -32,10 +32,11 @@ abbrev pub words_of_bounds : List (Token × Lit) → List Terminal
 words_of_bounds [] = []
 words_of_bounds ((m, l) ∷ ls) = t_mark Comma m ∷ (words_of_lit l ++ words_of_bounds ls)
 
--- a column or a literal
+-- a column, a literal, or a type's name and a quoted text
 abbrev pub words_of_operand : OperandTree → List Terminal
 words_of_operand (column c) = words_of_col c
 words_of_operand (literal l) = words_of_lit l
+words_of_operand (typed n t) = t_name n ∷ t_quoted t ∷ []
 
 -- NOT or nothing
 abbrev pub words_of_negated : Negated → List Terminal
@@ -83,9 +84,26 @@ words_of_nulls unwritten = []
 words_of_nulls (not_null n k) = t_key Not n ∷ t_key Null k ∷ []
 words_of_nulls (nullable k) = t_key Null k ∷ []
 
+-- further numbers, each after a comma
+abbrev pub words_of_numbers : List (Token × Said) → List Terminal
+words_of_numbers [] = []
+words_of_numbers ((m, n) ∷ ns) = t_mark Comma m ∷ t_number n ∷ words_of_numbers ns
+
+-- numbers in parentheses, or nothing
+abbrev pub words_of_modifiers : Modifiers → List Terminal
+words_of_modifiers no_modifiers = []
+words_of_modifiers (modifiers o n ns m) = t_mark Open o ∷ t_number n ∷ (words_of_numbers ns ++ t_mark Close m ∷ [])
+
+-- a type's name, or its words, with its modifiers
+abbrev pub words_of_type : TypeTree → List Terminal
+words_of_type (named_type n m) = t_name n ∷ words_of_modifiers m
+words_of_type (character_varying c v m) = t_name (free Character c) ∷ t_name (free Varying v) ∷ words_of_modifiers m
+words_of_type (timestamp_with_zone s m w t z) = t_name (free Timestamp s) ∷ (words_of_modifiers m ++ t_key With w ∷ t_name (free Time t) ∷ t_name (free Zone z) ∷ [])
+words_of_type (timestamp_without_zone s m w t z) = t_name (free Timestamp s) ∷ (words_of_modifiers m ++ t_name (free Without w) ∷ t_name (free Time t) ∷ t_name (free Zone z) ∷ [])
+
 -- a column's name, its type and whether it may be NULL
 abbrev pub words_of_coldef : ColDef → List Terminal
-words_of_coldef (coldef n t nulls) = t_name n ∷ t_name t ∷ words_of_nulls nulls
+words_of_coldef (coldef n t nulls) = t_name n ∷ (words_of_type t ++ words_of_nulls nulls)
 
 -- further columns, each after a comma
 abbrev pub words_of_columns : List (Token × ColDef) → List Terminal

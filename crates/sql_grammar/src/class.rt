@@ -37,6 +37,7 @@ pub enum Free {
     Analyze,
     Between,
     By,
+    Character,
     Check,
     Common,
     Copy,
@@ -61,7 +62,12 @@ pub enum Free {
     Rows,
     Statistics,
     Stdin,
+    Time,
+    Timestamp,
     Use,
+    Varying,
+    Without,
+    Zone,
 }
 
 /// A symbol of one byte that is no operator, but for the `;` that ends a statement.

@@ -41,11 +41,12 @@ const WORDS: [Word; 25] = [
 ];
 
 /// The words with a place of their own that may be names.
-const FREE_WORDS: [Free; 29] = [
+const FREE_WORDS: [Free; 35] = [
     Free::Advise,
     Free::Analyze,
     Free::Between,
     Free::By,
+    Free::Character,
     Free::Check,
     Free::Common,
     Free::Copy,
@@ -70,7 +71,12 @@ const FREE_WORDS: [Free; 29] = [
     Free::Rows,
     Free::Statistics,
     Free::Stdin,
+    Free::Time,
+    Free::Timestamp,
     Free::Use,
+    Free::Varying,
+    Free::Without,
+    Free::Zone,
 ];
 
 /// A reserved word in small letters.
@@ -115,6 +121,7 @@ fn free_spelling(word: Free) -> &'static [u8]
         Free::Analyze => b"analyze",
         Free::Between => b"between",
         Free::By => b"by",
+        Free::Character => b"character",
         Free::Check => b"check",
         Free::Common => b"common",
         Free::Copy => b"copy",
@@ -139,7 +146,12 @@ fn free_spelling(word: Free) -> &'static [u8]
         Free::Rows => b"rows",
         Free::Statistics => b"statistics",
         Free::Stdin => b"stdin",
+        Free::Time => b"time",
+        Free::Timestamp => b"timestamp",
         Free::Use => b"use",
+        Free::Varying => b"varying",
+        Free::Without => b"without",
+        Free::Zone => b"zone",
     }
 }
 

@@ -10,12 +10,13 @@ use crate::offered::{
 };
 use crate::table::Item::{
     self, AdvisedSelect, AfterColumn, AfterCreate, AfterDistinct, AfterExplain, AfterGroupedName,
-    AfterIs, AfterLiteral, AfterName, AfterNot, AfterPlain, AfterQualifier, AfterResult,
-    AfterTruth, Argument, Candidate, Closes, Digits, Ends, Figures, FirstItem, FirstOrLast,
-    FreeWord, GroupedItem, Keyword, Label, Literal, MaybeAlias, MaybeClass, MaybeCommon,
-    MaybeDirection, MaybeGroup, MaybeHistogram, MaybeInclude, MaybeLimit, MaybeNulls, MaybeOffset,
-    MaybeOrder, MaybeUsing, MaybeWhere, MoreAdvised, MoreAnds, MoreBounds, MoreCands, MoreColumns,
-    MoreGroupColumns, MoreGroupedItems, MoreGroups, MoreJoins, MoreKeys, MoreNames, MoreOrderings,
+    AfterIs, AfterLiteral, AfterName, AfterNot, AfterPlain, AfterQualifier, AfterResult, AfterSide,
+    AfterTruth, Argument, Candidate, Closes, ColumnType, Digits, Ends, Figures, FirstItem,
+    FirstOrLast, FreeWord, GroupedItem, Keyword, Label, Literal, MaybeAlias, MaybeClass,
+    MaybeCommon, MaybeDirection, MaybeGroup, MaybeHistogram, MaybeInclude, MaybeLimit,
+    MaybeModifiers, MaybeNulls, MaybeOffset, MaybeOrder, MaybeUsing, MaybeVarying, MaybeWhere,
+    MaybeZone, MoreAdvised, MoreAnds, MoreBounds, MoreCands, MoreColumns, MoreGroupColumns,
+    MoreGroupedItems, MoreGroups, MoreJoins, MoreKeys, MoreModifiers, MoreNames, MoreOrderings,
     MoreOrs, MoreResults, MoreShares, Negation, NotEnds, Nullness, PlainItem, PlainNext, PlainTail,
     Query, QuotedText, Result, Side, Sign, StarOrLabel, Stop,
 };
@@ -103,6 +104,35 @@ pub const QUERY: ItemRows = rows! { NEEDED;
     ];
 };
 
+/// A type: a name, CHARACTER VARYING or TIMESTAMP with a zone, and modifiers behind the words that say which type it is.
+pub const COLUMN_TYPE: ItemRows = rows! { NEEDED;
+    Name(Some(Free::Character)) => [MaybeVarying, MaybeModifiers];
+    Name(Some(Free::Timestamp)) => [MaybeModifiers, MaybeZone];
+    ANY_NAME => [MaybeModifiers];
+};
+
+/// VARYING or nothing.
+pub const MAYBE_VARYING: ItemRows = rows! { OPTIONAL;
+    Name(Some(Free::Varying)) => [];
+};
+
+/// The modifiers of a type, or nothing.
+pub const MAYBE_MODIFIERS: ItemRows = rows! { OPTIONAL;
+    Mark(Symbol::Open) => [Digits, MoreModifiers];
+};
+
+/// Further modifiers, and the closing parenthesis.
+pub const MORE_MODIFIERS: ItemRows = rows! { NEEDED;
+    Mark(Symbol::Comma) => [Digits, MoreModifiers];
+    Mark(Symbol::Close) => [];
+};
+
+/// WITH TIME ZONE, WITHOUT TIME ZONE or nothing.
+pub const MAYBE_ZONE: ItemRows = rows! { OPTIONAL;
+    Key(Word::With) => [FreeWord(Free::Time), FreeWord(Free::Zone)];
+    Name(Some(Free::Without)) => [FreeWord(Free::Time), FreeWord(Free::Zone)];
+};
+
 /// NULL, NOT NULL or nothing.
 pub const NULLNESS: ItemRows = rows! { OPTIONAL;
     Key(Word::Not) => [Keyword(Word::Null)];
@@ -111,7 +141,7 @@ pub const NULLNESS: ItemRows = rows! { OPTIONAL;
 
 /// Further columns of a table, and the closing parenthesis.
 pub const MORE_COLUMNS: ItemRows = rows! { NEEDED;
-    Mark(Symbol::Comma) => [Label, Label, Nullness, MoreColumns];
+    Mark(Symbol::Comma) => [Label, ColumnType, Nullness, MoreColumns];
     Mark(Symbol::Close) => [];
 };
 
@@ -246,6 +276,7 @@ pub const NOT_ENDS: ItemRows = rows! { OPTIONAL;
 /// What follows a name at an atom's start.
 pub const AFTER_NAME: ItemRows = rows! { OPTIONAL;
     Mark(Symbol::Dot) => [Label, AfterColumn];
+    Quoted => [AfterLiteral];
     Key(Word::Is) => [AfterIs];
     Operator => [Side];
     Key(Word::Not) => [AfterNot] if READS_LISTS;
@@ -274,7 +305,7 @@ pub const AFTER_IS: ItemRows = rows! { NEEDED;
     Key(Word::Null) => [];
 };
 
-/// What follows a number or a quoted text: it has to be compared.
+/// What follows a number, a quoted text or a typed literal: it has to be compared.
 pub const AFTER_LITERAL: ItemRows = rows! { NEEDED;
     Operator => [Side];
     Key(Word::Not) => [FreeWord(Free::Between), Side, Keyword(Word::And), Side] if READS_LISTS;
@@ -290,7 +321,7 @@ pub const AFTER_TRUTH: ItemRows = rows! { OPTIONAL;
 
 /// An operand.
 pub const SIDE: ItemRows = rows! { NEEDED;
-    ANY_NAME => [AfterQualifier];
+    ANY_NAME => [AfterSide];
     Mark(Symbol::Minus) => [Digits];
     Number => [];
     Quoted => [];
@@ -299,7 +330,13 @@ pub const SIDE: ItemRows = rows! { NEEDED;
     Key(Word::Null) => [];
 };
 
-/// What follows a name in an operand.
+/// What follows a name in an operand: a column's name behind a dot, or the quoted text of a typed literal.
+pub const AFTER_SIDE: ItemRows = rows! { OPTIONAL;
+    Mark(Symbol::Dot) => [Label];
+    Quoted => [];
+};
+
+/// What follows a name where a column stands.
 pub const AFTER_QUALIFIER: ItemRows = rows! { OPTIONAL;
     Mark(Symbol::Dot) => [Label];
 };
@@ -345,7 +382,7 @@ pub const FIRST_OR_LAST: ItemRows = rows! { NEEDED;
 
 /// What follows CREATE, up to the statement's end.
 pub const AFTER_CREATE: ItemRows = rows! { NEEDED;
-    Key(Word::Table) => [Label, Sign(Symbol::Open), Label, Label, Nullness, MoreColumns, Ends];
+    Key(Word::Table) => [Label, Sign(Symbol::Open), Label, ColumnType, Nullness, MoreColumns, Ends];
     Name(Some(Free::Index)) => [
         Label, Keyword(Word::On), Label, MaybeUsing, Sign(Symbol::Open), Label, MaybeClass,
         MaybeDirection, MaybeNulls, MoreKeys, MaybeInclude, MaybeWhere, Ends

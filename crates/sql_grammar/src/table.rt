@@ -31,6 +31,16 @@ pub enum Item {
     Stop,
     /// A SELECT.
     Query,
+    /// A type.
+    ColumnType,
+    /// VARYING or nothing.
+    MaybeVarying,
+    /// The modifiers of a type, or nothing.
+    MaybeModifiers,
+    /// Further modifiers, and the closing parenthesis.
+    MoreModifiers,
+    /// WITH TIME ZONE, WITHOUT TIME ZONE or nothing.
+    MaybeZone,
     /// NULL, NOT NULL or nothing.
     Nullness,
     /// Further columns of a table, and the closing parenthesis.
@@ -81,13 +91,15 @@ pub enum Item {
     AfterNot,
     /// What follows IS.
     AfterIs,
-    /// What follows a number or a quoted text: it has to be compared.
+    /// What follows a number, a quoted text or a typed literal: it has to be compared.
     AfterLiteral,
     /// What follows TRUE, FALSE or NULL.
     AfterTruth,
     /// An operand.
     Side,
     /// What follows a name in an operand.
+    AfterSide,
+    /// What follows a name where a column stands.
     AfterQualifier,
     /// ORDER BY and its columns, or nothing.
     MaybeOrder,
@@ -165,6 +177,11 @@ fn item_rows(item: Item) -> ItemRows
         Item::Ends => rows::ENDS,
         Item::Stop => rows::STOP,
         Item::Query => rows::QUERY,
+        Item::ColumnType => rows::COLUMN_TYPE,
+        Item::MaybeVarying => rows::MAYBE_VARYING,
+        Item::MaybeModifiers => rows::MAYBE_MODIFIERS,
+        Item::MoreModifiers => rows::MORE_MODIFIERS,
+        Item::MaybeZone => rows::MAYBE_ZONE,
         Item::Nullness => rows::NULLNESS,
         Item::MoreColumns => rows::MORE_COLUMNS,
         Item::Result => rows::RESULT,
@@ -193,6 +210,7 @@ fn item_rows(item: Item) -> ItemRows
         Item::AfterLiteral => rows::AFTER_LITERAL,
         Item::AfterTruth => rows::AFTER_TRUTH,
         Item::Side => rows::SIDE,
+        Item::AfterSide => rows::AFTER_SIDE,
         Item::AfterQualifier => rows::AFTER_QUALIFIER,
         Item::MaybeOrder => rows::MAYBE_ORDER,
         Item::MoreOrderings => rows::MORE_ORDERINGS,

@@ -3,6 +3,7 @@ use Rattle.std.proofs.Common.{◌≡◌, ◌≤◌, ◌+◌, ◌^◌, ℕ, Bool,
 use Rattle.std.specs.Str.{bytes_eq}
 use Rattle.pg_base.specs.declared.numbers.ColNo.{ColNo}
 use Rattle.pg_base.specs.declared.numbers.TableNo.{TableNo}
+use Rattle.pg_base.specs.declared.faults.Code.TheVariants.{S17}
 use Rattle.pg_base.specs.declared.faults.Fault.{Fault}
 use Rattle.pg_base.specs.declared.limits.TheConstants.{MOST_COLUMNS, MOST_SCRIPT_BYTES}
 use Rattle.pg_base.specs.declared.faults.Refusal.{Refusal}
@@ -12,7 +13,7 @@ use Rattle.pg_value.specs.declared.value.SqlType.{SqlType}
 use Rattle.sql_lex.specs.declared.tokens.Token.{Token}
 use Rattle.sql_grammar.specs.Terminals.{Ident, Said, token_of}
 use Rattle.sql_grammar.specs.Syntax.{Lit, Statement, empty, create_table, create_index, query, copy, sizes, column_statistics, analyze, advise, check, use_plan, grouped}
-use Rattle.sql_grammar.specs.Faults.{terminals, bytes_of}
+use Rattle.sql_grammar.specs.Faults.{terminals, bytes_of, fault_at}
 use Rattle.sql_grammar.specs.CopyLine.{IsDataStart}
 use Rattle.catalog.specs.Contents.{Contents, IsTable, table_at}
 use Rattle.catalog.specs.Tables.{IsAcceptable, table_named}
@@ -24,7 +25,9 @@ use Rattle.ddl_reader.specs.declared.ddl.Ddl.{Ddl}
 use Rattle.ddl_reader.specs.declared.ddl.Ddl.TheVariants.{Table, Rows, Column as Column', Copy, Analyze}
 use Rattle.ddl_reader.specs.declared.ddl.Read.{Read}
 use Rattle.ddl_reader.specs.work.Readings.{definition, reading}
-use Rattle.ddl_reader.specs.Types.{type_named}
+use Rattle.ddl_reader.specs.declared.types.TypeWord.{TypeWord}
+use Rattle.ddl_reader.specs.declared.types.TypeWord.TheVariants.{Fraction, Length, Plain, Sizes}
+use Rattle.ddl_reader.specs.Types.{taken, type_bound, type_sized}
 use Rattle.ddl_reader.specs.Columns.{Written, defined_column, BoundColumn, bound_column, bound_by, bound_all, further}
 use Rattle.expr_reader.specs.Lists.{bound_each}
 use Rattle.ddl_reader.specs.Statistics.{CommonWords, common_value, table_of_name, column_of_name, stated_rows, statistics_reading, column_statistics_of, commons_of, bounds_of, analysis}
@@ -52,12 +55,35 @@ use Rattle.statements.specs.work.Steps.{IsCarrying, IsDefined, Refuses, RefusesD
 use Rattle.statements.proofs.PlainLemmas.{IsPlain, column-name-plain, each-plain, next-plain, plain-field, table-name-plain, typed-plain}
 
 -- faults of words, of syntax and of names are in no record of data
-type-plain : (o : Option SqlType) (w : Written) → IsPlain (bound_by o w)
-type-plain None w = refl
-type-plain (Some t) w = tt
+taken-plain : (fits : Bool) (t : SqlType) (n : Said) → IsPlain (taken fits t n)
+taken-plain true t n = tt
+taken-plain false t n = refl
+
+digits-plain : (fits : Bool) (scale : Bool) (t : SqlType) (p s : Said) → IsPlain (cond fits (taken scale t s) (Err (fault_at S17 p.token)))
+digits-plain true scale t p s = taken-plain scale t s
+digits-plain false scale t p s = refl
+
+sized-plain : (token : Token) (word : TypeWord) (ns : List Said) → IsPlain (type_sized token word ns)
+sized-plain token (Plain t) [] = tt
+sized-plain token Length [] = tt
+sized-plain token (Fraction t) [] = tt
+sized-plain token Sizes [] = refl
+sized-plain token Length (n ∷ []) = taken-plain _ _ n
+sized-plain token (Fraction t) (n ∷ []) = taken-plain _ t n
+sized-plain token Sizes (p ∷ []) = taken-plain _ _ p
+sized-plain token Sizes (p ∷ s ∷ []) = digits-plain _ _ _ p s
+sized-plain token word (n ∷ ns) = refl
+
+word-plain : (token : Token) (word : Option TypeWord) (ns : List Said) → IsPlain (type_bound token word ns)
+word-plain token None ns = refl
+word-plain token (Some word) ns = sized-plain token word ns
+
+type-plain : (r : Result SqlType Fault) (w : Written) → IsPlain r → IsPlain (bound_by r w)
+type-plain (Err f) w plain = plain
+type-plain (Ok t) w plain = tt
 
 columns-plain : (ws : List Written) → IsPlain (bound_all ws)
-columns-plain ws = each-plain bound_column ws (λ w. type-plain (type_named w.kind) w)
+columns-plain ws = each-plain bound_column ws (λ w. type-plain (type_bound w.kind.at w.kind.word w.kind.numbers) w (word-plain w.kind.at w.kind.word w.kind.numbers))
 
 limited-plain : (m : Reading) (left : List BoundColumn) → IsPlain (limited_columns m left)
 limited-plain m [] = tt

@@ -52,7 +52,7 @@ class-plain token m t (Some c) = accepted-plain (class_has_method c m) (accepted
 
 class-bound-plain : (m : Method) (t : SqlType) (c : ClassTree) → IsPlain (class_bound m t c)
 class-bound-plain m t no_class = tt
-class-bound-plain m t (op_class n named) = class-plain (token_of n) m t (class_of_name (bytes_of n))
+class-bound-plain m t (op_class n named) = class-plain (token_of n) m t (class_of_name (bytes_of n) t)
 
 method-plain : (u : Using) → IsPlain (method_bound u)
 method-plain no_using = tt

@@ -241,8 +241,8 @@ module _ (w : World) (text : List ℕ) (tokens : List Token) where
 
   -- a grouped query with a reply has a plan that groups
   has-group-plan : (e : MaybeExplain) (g : GroupedQuery) (r : Reply) → IsReply w (asked_of_groups e g) r → HasNoGroupPlan w.contents g → ⊥
-  has-group-plan unexplained g r reply none = none reply.task reply.explanation.task reply.chosen.form reply.explanation.least.plan reply.explanation.least.is
-  has-group-plan (explained t) g r reply none = none reply.task reply.explanation.task reply.chosen.form reply.explanation.least.plan reply.explanation.least.is
+  has-group-plan unexplained g r reply none = none reply.form reply.plan reply.explanation.least.is
+  has-group-plan (explained t) g r reply none = none reply.form reply.plan reply.explanation.least.is
 
   not_grouped : (e : MaybeExplain) (x : GroupedSelect) (b : BoundGroups) (a : Action) (r : Reply) (f : Fault) → bound_groups w.contents (token_at tokens 0) x ≡ Ok b → Groups w e b a → IsReply w a r → IsGroupFault w text tokens x f → ⊥
   not_grouped e x b a r f h is reply (inl k) = let both : Ok b ≡ Err f = sym h ∙ k in absurd (cc)

@@ -1,7 +1,7 @@
 -- A fault of names, literals and limits is in no record of data.
 use Rattle.std.proofs.Common.{◌≡◌, ℕ, Bool, true, false, codes, cond, List, [], ◌∷◌, Option, Some, None, Ok, Err, Result, refl, ap, arith}
 use Rattle.pg_base.specs.declared.faults.Code.{Code}
-use Rattle.pg_base.specs.declared.faults.Code.TheVariants.{S2, S3}
+use Rattle.pg_base.specs.declared.faults.Code.TheVariants.{S2, S3, S10}
 use Rattle.pg_base.specs.declared.faults.Fault.{Fault}
 use Rattle.pg_base.specs.declared.numbers.TableNo.{TableNo}
 use Rattle.pg_value.specs.declared.fields.FieldFault.{FieldFault}
@@ -10,7 +10,8 @@ use Rattle.pg_value.specs.declared.operators.Op.{Op}
 use Rattle.pg_value.specs.declared.value.SqlType.{SqlType}
 use Rattle.pg_value.specs.declared.value.SqlType.TheVariants as types
 use Rattle.pg_value.specs.declared.value.Value.{Value}
-use Rattle.pg_value.specs.Fields.{ranged, field_value}
+use Rattle.pg_value.specs.Fields.{field_value, whole_value}
+use Rattle.pg_value.specs.Types.{takes_whole}
 use Rattle.opfamily.specs.Answers.{does_exist}
 use Rattle.pg_expr.specs.declared.operand.ColRef.{ColRef}
 use Rattle.pg_expr.specs.declared.operand.Operand.{Operand as Bound}
@@ -20,14 +21,15 @@ use Rattle.catalog.specs.Tables.{column_named, table_named}
 use Rattle.sql_lex.specs.declared.tokens.Token.{Token}
 use Rattle.sql_grammar.specs.Terminals.{Ident, Said, token_of}
 use Rattle.sql_grammar.specs.Faults.{Production, IsFirstFault, bytes_of, fault_at}
-use Rattle.sql_grammar.specs.Syntax.{Col, bare, qualified, yes, no, unknown, Lit, number, negative, quoted, constant, OperandTree, column, literal, Expr, either_of, Ors, no_or, or_conj, Conj, both_of, Ands, no_and, and_neg, Neg, negated, plain, Atom, parens, compare, is_null, is_not_null, in_list, between, column_alone, constant_alone}
+use Rattle.sql_grammar.specs.Syntax.{Col, bare, qualified, yes, no, unknown, Lit, number, negative, quoted, constant, OperandTree, column, literal, typed, Expr, either_of, Ors, no_or, or_conj, Conj, both_of, Ands, no_and, and_neg, Neg, negated, plain, Atom, parens, compare, is_null, is_not_null, in_list, between, column_alone, constant_alone}
 use Rattle.expr_reader.specs.Lists.{before_all, bound_each}
 use Rattle.expr_reader.specs.Operators.{operator_of}
 use Rattle.expr_reader.specs.declared.found.Found.{Found}
 use Rattle.expr_reader.specs.declared.found.Found.TheVariants.{One, NoTable, NoColumn, Many}
 use Rattle.expr_reader.specs.Scope.{Scope, look_up}
-use Rattle.expr_reader.specs.Literals.{literal_value, number_as, flag_as, typed_value, value_or_fault, written}
-use Rattle.expr_reader.specs.Conditions.{next, the_column, column_of, place_of_col, BoundSide, of_column, of_literal, own_type, type_beside, operand_of, operated, compare_as, flag_column, then_parts, comparison, standing_for, literals_after, equal_to, bounded_by, side_of, meaning_of_expr, meaning_of_ors, meaning_of_conj, meaning_of_ands, meaning_of_neg, meaning_of_atom}
+use Rattle.expr_reader.specs.Literals.{literal_value, named_value, number_type, flag_as, typed_value, value_or_fault, written}
+use Rattle.expr_reader.specs.Types.{type_named}
+use Rattle.expr_reader.specs.Conditions.{next, the_column, column_of, place_of_col, BoundSide, of_column, of_literal, of_typed, own_type, type_beside, operand_of, operated, compare_as, flag_column, then_parts, comparison, standing_for, literals_after, equal_to, bounded_by, side_of, meaning_of_expr, meaning_of_ors, meaning_of_conj, meaning_of_ands, meaning_of_neg, meaning_of_atom}
 use Rattle.ddl_reader.specs.Statistics.{known, table_of_name, column_of_name}
 use Rattle.reply_text.specs.Tells.{IsFieldOf}
 
@@ -76,8 +78,8 @@ value-plain token (Err fields.Invalid) = refl
 value-plain token (Err fields.Memory) = refl
 
 literal-plain : (t : SqlType) (l : Lit) → IsPlain (literal_value t l)
-literal-plain t (number n) = value-plain n.token (ranged types.Int8 (Some (written false n)))
-literal-plain t (negative minus n) = value-plain minus (ranged types.Int8 (Some (written true n)))
+literal-plain t (number n) = value-plain n.token (whole_value (number_type t) (written false n))
+literal-plain t (negative minus n) = value-plain minus (whole_value (number_type t) (written true n))
 literal-plain t (quoted q) = value-plain q.token (field_value t q.value)
 literal-plain t (constant yes k) = tt
 literal-plain t (constant no k) = tt
@@ -85,25 +87,23 @@ literal-plain t (constant unknown k) = tt
 
 flag-plain : (t : SqlType) (token : Token) (b : Bool) → IsPlain (flag_as t token b)
 flag-plain types.Bool token b = tt
-flag-plain types.Int2 token b = refl
-flag-plain types.Int4 token b = refl
-flag-plain types.Int8 token b = refl
-flag-plain types.Text token b = refl
+flag-plain t token b = refl
 
-number-plain : (t : SqlType) (token : Token) (minus : Bool) (n : Said) → IsPlain (number_as t token (written minus n))
-number-plain types.Text token minus n = refl
-number-plain types.Bool token minus n = refl
-number-plain types.Int2 token minus n = value-plain token (ranged types.Int2 (Some (written minus n)))
-number-plain types.Int4 token minus n = value-plain token (ranged types.Int4 (Some (written minus n)))
-number-plain types.Int8 token minus n = value-plain token (ranged types.Int8 (Some (written minus n)))
+number-plain : (whole : Bool) (t : SqlType) (token : Token) (minus : Bool) (n : Said) → IsPlain (cond whole (value_or_fault token (whole_value t (written minus n))) (Err (fault_at S10 token)))
+number-plain true t token minus n = value-plain token (whole_value t (written minus n))
+number-plain false t token minus n = refl
 
 pub typed-plain : (t : SqlType) (l : Lit) → IsPlain (typed_value t l)
-typed-plain t (number n) = number-plain t n.token false n
-typed-plain t (negative minus n) = number-plain t minus true n
+typed-plain t (number n) = number-plain (takes_whole t) t n.token false n
+typed-plain t (negative minus n) = number-plain (takes_whole t) t minus true n
 typed-plain t (quoted q) = value-plain q.token (field_value t q.value)
 typed-plain t (constant yes k) = flag-plain t k true
 typed-plain t (constant no k) = flag-plain t k false
 typed-plain t (constant unknown k) = refl
+
+named-plain : (token : Token) (t : Option SqlType) (text : List ℕ) → IsPlain (named_value token t text)
+named-plain token None text = refl
+named-plain token (Some t) text = value-plain token (field_value t text)
 
 -- columns
 pub found-plain : (found : Found) (qualifier name : Token) → IsPlain (the_column found qualifier name)
@@ -120,6 +120,7 @@ column-plain scope (qualified q m n) = found-plain (look_up scope (Some (bytes_o
 operand-plain : (t : SqlType) (s : BoundSide) → IsPlain (operand_of t s)
 operand-plain t (of_column c u token) = tt
 operand-plain t (of_literal l) = next-plain (literal_value t l) _ (literal-plain t l) (λ v. tt)
+operand-plain t (of_typed n q) = next-plain (named_value (token_of n) (type_named (bytes_of n)) q.value) _ (named-plain (token_of n) (type_named (bytes_of n)) q.value) (λ v. tt)
 
 exists-plain : (b : Bool) (x : Cond) (token : Token) (code : Code) → IsPlain (cond b (Ok x) (Err (fault_at code token)))
 exists-plain true x token code = tt
@@ -135,10 +136,7 @@ sides-plain op t u a b =
 
 alone-plain : (t : SqlType) (c : ColRef) (token : Token) → IsPlain (flag_column t c token)
 alone-plain types.Bool c token = tt
-alone-plain types.Int2 c token = refl
-alone-plain types.Int4 c token = refl
-alone-plain types.Int8 c token = refl
-alone-plain types.Text c token = refl
+alone-plain t c token = refl
 
 parts-plain : (part : Result Cond Fault) (parts : Result Conds Fault) → IsPlain part → IsPlain parts → IsPlain (then_parts part parts)
 parts-plain part parts p q = next-plain part _ p (λ x. next-plain parts _ q (λ xs. tt))
@@ -148,10 +146,11 @@ module _ (scope : Scope) (type_of : ColRef → SqlType) where
   side-plain : (o : OperandTree) → IsPlain (side_of scope type_of o)
   side-plain (column c) = next-plain (column_of scope c) _ (column-plain scope c) (λ r. tt)
   side-plain (literal l) = tt
+  side-plain (typed n q) = tt
 
   comparison-plain : (l : OperandTree) (op : Said) (r : OperandTree) → IsPlain (comparison scope type_of l op r)
   comparison-plain l op r =
-      next-plain (side_of scope type_of l) _ (side-plain l) (λ a. next-plain (side_of scope type_of r) _ (side-plain r) (λ b. sides-plain op (type_beside (own_type a) (own_type b)) (type_beside (own_type b) (own_type a)) a b))
+      next-plain (side_of scope type_of l) _ (side-plain l) (λ a. next-plain (side_of scope type_of r) _ (side-plain r) (λ b. sides-plain op (type_beside a (own_type b)) (type_beside b (own_type a)) a b))
 
   equals-plain : (c : Col) (w : Token) (ls : List Lit) → IsPlain (equal_to scope type_of c w ls)
   equals-plain c w [] = tt

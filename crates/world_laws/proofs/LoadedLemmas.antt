@@ -1,45 +1,23 @@
 -- What is loaded into lawful data is lawful.
-use Rattle.std.proofs.Common.{◌≡◌, ◌+◌, ◌-◌, ◌≤◌, ◌∙◌, ℕ, Bool, true, false, cond, List, [], ◌∷◌, ◌++◌, length, length-append, Option, Some, None, Result, Ok, Err, refl, sym, ap, subst, arith, All}
-use Rattle.std.specs.Prelude.{ℤ, nat_eq, nat_lt}
+use Rattle.std.proofs.Common.{◌≡◌, ◌+◌, ◌-◌, ◌≤◌, ◌∙◌, ℕ, Bool, true, false, cond, List, [], ◌∷◌, ◌++◌, length, length-append, Result, Ok, Err, refl, sym, ap, subst, arith, All}
+use Rattle.std.specs.Prelude.{nat_eq, nat_lt}
 use Rattle.std.specs.Str.{bytes_eq}
 use Rattle.std.proofs.lemmas.Bool.Decides.{nat_tests}
 use Rattle.std.proofs.lemmas.List.Elements.{All-append, All-cons, All-nil}
 use Rattle.pg_base.specs.declared.limits.TheConstants.{MOST_ROWS}
 use Rattle.pg_base.specs.declared.numbers.ColNo.{ColNo}
-use Rattle.pg_value.specs.Fields.{field_value, flag_of, flagged, null_text, number_of, ranged, word_of}
-use Rattle.pg_value.specs.Types.{IsOfType, in_range}
+use Rattle.pg_value.specs.Fields.{field_value, null_text}
+use Rattle.pg_value.proofs.FieldLemmas.{field-typed}
 use Rattle.pg_value.specs.declared.columns.Column.{Column}
 use Rattle.pg_value.specs.declared.fields.FieldFault.{FieldFault}
 use Rattle.pg_value.specs.declared.fields.FieldFault.TheVariants.{Invalid, Memory, Range}
-use Rattle.pg_value.specs.declared.value.SqlType.{SqlType}
-use Rattle.pg_value.specs.declared.value.SqlType.TheVariants.{Int2, Int4, Int8, Text as TextType, Bool as BoolType}
 use Rattle.pg_value.specs.declared.value.Value.{Value}
-use Rattle.pg_value.specs.declared.value.Value.TheVariants.{Null, Int, Bool as Flag, Text as String}
+use Rattle.pg_value.specs.declared.value.Value.TheVariants.{Null}
 use Rattle.heap.specs.declared.fault.CopyFault.{CopyFault}
 use Rattle.heap.specs.declared.fault.CopyFault.TheVariants.{Arity, IsNull, TooLong, TooMany}
 use Rattle.heap.specs.Loading.{field, is_long, first_fault_or_all, loaded, at_field, row, rows_from, values_from, with_rows}
 use Rattle.heap.specs.Stored.{IsColumnValue, IsLawfulData, IsRowOf, Stored, Values}
 use Rattle.heap.proofs.Fields.{field_null, field_other, read_lawful}
-
--- what a text spells is of the type for which it is read
-flag-typed : (o : Option Bool) (v : Value) → flagged o ≡ Ok v → IsOfType BoolType v
-flag-typed None v is = absurd (cc (is))
-flag-typed (Some b) v is = let same : Flag b ≡ v = cc (is) in subst (IsOfType BoolType) same tt
-
-test-typed : (t : SqlType) (n : ℤ) (b : Bool) (v : Value) → in_range t n ≡ b → cond b (Ok (Int n)) (Err Range) ≡ Ok v → IsOfType t v
-test-typed t n false v here is = absurd (cc (is))
-test-typed t n true v here is = let same : Int n ≡ v = cc (is) in subst (IsOfType t) same here
-
-number-typed : (t : SqlType) (o : Option ℤ) (v : Value) → ranged t o ≡ Ok v → IsOfType t v
-number-typed t None v is = absurd (cc (is))
-number-typed t (Some n) v is = test-typed t n (in_range t n) v refl is
-
-text-typed : (t : SqlType) (text : List ℕ) (v : Value) → field_value t text ≡ Ok v → IsOfType t v
-text-typed TextType text v is = let same : String text ≡ v = cc (is) in subst (IsOfType TextType) same tt
-text-typed BoolType text v is = flag-typed (flag_of (word_of text)) v is
-text-typed Int2 text v is = number-typed Int2 (number_of (word_of text)) v is
-text-typed Int4 text v is = number-typed Int4 (number_of (word_of text)) v is
-text-typed Int8 text v is = number-typed Int8 (number_of (word_of text)) v is
 
 placed-ok : (rec : ℕ) (col : ColNo) (r : Result Value FieldFault) (v : Value) → at_field rec col r ≡ Ok v → r ≡ Ok v
 placed-ok rec col (Ok u) v is = let same : u ≡ v = cc (is) in ap Ok same
@@ -56,7 +34,7 @@ short-held : (rec : ℕ) (col : ColNo) (column : Column) (text : List ℕ) (b : 
 short-held rec col column text true v plain long is = absurd (cc (is))
 short-held rec col column text false v plain short is =
     let read = placed-ok rec col (field_value column.typed text) v is in
-    read_lawful column text v plain short read (text-typed column.typed text v read)
+    read_lawful column text v plain short read (field-typed column.typed text v read)
 
 field-by : (rec : ℕ) (col : ColNo) (column : Column) (text : List ℕ) (b : Bool) (v : Value) → bytes_eq text null_text ≡ b → field rec col column text ≡ Ok v → IsColumnValue column v
 field-by rec col column text true v null is = null-held rec col column column.not_null v refl (sym (field_null rec col column text null) ∙ is)

@@ -4,12 +4,12 @@ use Rattle.std.specs.declared.alloc.Global.{Global}
 use Rattle.pg_base.specs.declared.faults.Fault.{Fault}
 use Rattle.pg_base.specs.declared.faults.Refusal.{Refusal}
 use Rattle.pg_base.specs.declared.faults.Refusal.TheVariants as refusal
-use Rattle.sql_grammar.specs.declared.class.Word.TheVariants.{Not, Null}
-use Rattle.sql_grammar.specs.declared.class.Symbol.TheVariants.{Close, Dot, Open}
+use Rattle.sql_grammar.specs.declared.class.Word.TheVariants.{Not, Null, With}
+use Rattle.sql_grammar.specs.declared.class.Symbol.TheVariants.{Close, Comma, Dot, Open}
 use Rattle.sql_grammar.specs.Terminals.{Terminal, Ident, Said, free, t_key, t_mark, t_name, t_number}
 use Rattle.sql_grammar.specs.Syntax.{Mark, ColDef, Lit, Share, CommonPart, Histogram}
 use Rattle.sql_grammar.specs.Words.{words_of_coldef, words_of_columns, words_of_lit, words_of_share, words_of_shares, words_of_bounds, words_of_common, words_of_histogram}
-use Rattle.sql_grammar.specs.declared.class.Free.TheVariants.{Common as CommonWord, Histogram as HistogramWord}
+use Rattle.sql_grammar.specs.declared.class.Free.TheVariants.{Common as CommonWord, Histogram as HistogramWord, Varying, Without}
 use Rattle.pg_value.specs.declared.value.SqlType.{SqlType}
 use Rattle.pg_value.specs.declared.value.Value.{Value}
 use Rattle.expr_reader.specs.work.Reading.{numbered}
@@ -42,6 +42,25 @@ abbrev pub ends_nulls : List Terminal → Bool
 ends_nulls (t_key Not _ ∷ _) = false
 ends_nulls (t_key Null _ ∷ _) = false
 ends_nulls _ = true
+
+-- a comma or `)` is next: a column's definition ends there
+abbrev pub ends_column : List Terminal → Bool
+ends_column (t_mark Comma _ ∷ _) = true
+ends_column (t_mark Close _ ∷ _) = true
+ends_column _ = false
+
+-- no numbers in parentheses are next
+abbrev pub ends_modifiers : List Terminal → Bool
+ends_modifiers (t_mark Open _ ∷ _) = false
+ends_modifiers _ = true
+
+-- nothing that goes on a type's words is next: no parenthesis, VARYING, WITH or WITHOUT
+abbrev pub ends_type : List Terminal → Bool
+ends_type (t_mark Open _ ∷ _) = false
+ends_type (t_key With _ ∷ _) = false
+ends_type (t_name (free Varying _) ∷ _) = false
+ends_type (t_name (free Without _) ∷ _) = false
+ends_type _ = true
 
 -- columns up to `)`, and what follows
 abbrev pub words_of_body : ColDef → List (Mark × ColDef) → Mark → List Terminal → List Terminal

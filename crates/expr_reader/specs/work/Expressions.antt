@@ -12,7 +12,7 @@ use Rattle.sql_grammar.specs.declared.class.Symbol.TheVariants.{Close, Open}
 use Rattle.sql_grammar.specs.declared.class.Word.TheVariants.{And}
 use Rattle.sql_grammar.specs.Terminals.{Terminal, Said, t_key, t_mark}
 use Rattle.sql_grammar.specs.Syntax.{Key, Lit, Mark, OperandTree, column, Atom}
-use Rattle.sql_grammar.specs.work.Unique.{ends_operand, ends_atom, ends_conj, ends_expr, is_parens, front, tail}
+use Rattle.sql_grammar.specs.work.Unique.{ends_col, ends_operand, ends_atom, ends_conj, ends_expr, is_parens, front, tail}
 use Rattle.sql_grammar.specs.Words.{words_of_bounds, words_of_lit, words_of_col, words_of_operand, words_of_atom, words_of_neg, words_of_conj, words_of_expr}
 use Rattle.expr_reader.specs.declared.cursor.Operator.{Operator}
 use Rattle.pg_base.specs.declared.faults.Fault.{Fault}
@@ -32,7 +32,7 @@ ReadsLiteral t old read left = IfWords words_of_lit old (λ l rest. Reads (λ x.
 -- a column
 abbrev pub ReadsColumn : Scope → List Terminal → Result ColRef Refusal → List Terminal → Type 0
 ReadsColumn scope old read left =
-    IfFirst words_of_col ends_operand old (λ c rest. Reads (λ x. x) (column_of scope c) rest read left)
+    IfFirst words_of_col ends_col old (λ c rest. Reads (λ x. x) (column_of scope c) rest read left)
 
 -- a column that was read against each of some literals, from the left, by the operator for which IN stands
 abbrev pub each_equal : BoundSide → Token → List Lit → Result Conds Fault
@@ -67,7 +67,7 @@ module _ (scope : Scope) (type_of : ColRef → SqlType) where
   -- a column as a side of a comparison
   abbrev pub ReadsSide : List Terminal → Result SideRead Refusal → List Terminal → Type 0
   ReadsSide old read left =
-      IfFirst words_of_col ends_operand old (λ c rest. Reads (λ x. x) (side_meant scope type_of (column c)) rest read left)
+      IfFirst words_of_col ends_col old (λ c rest. Reads (λ x. x) (side_meant scope type_of (column c)) rest read left)
 
   -- a side of a comparison
   abbrev pub ReadsOperand : List Terminal → Result SideRead Refusal → List Terminal → Type 0

@@ -6,16 +6,18 @@ use Rattle.pg_expr.specs.Cond.{Cond}
 use Rattle.pg_expr.specs.declared.operand.ColRef.{ColRef}
 use Rattle.sql_lex.specs.declared.tokens.Token.{Token}
 use Rattle.sql_grammar.specs.declared.class.Word.TheVariants.{Is, Not, Null}
-use Rattle.sql_grammar.specs.Terminals.{Terminal, Said, t_key}
+use Rattle.sql_grammar.specs.Terminals.{Terminal, Said, token_of, t_key}
+use Rattle.sql_grammar.specs.Faults.{bytes_of}
 use Rattle.sql_grammar.specs.Syntax.{Lit, number, negative, quoted, constant, OperandTree}
 use Rattle.expr_reader.specs.work.Reading.{numbered, operator_said}
 use Rattle.expr_reader.specs.declared.cursor.Operator.{Operator}
 use Rattle.expr_reader.specs.declared.written.Literal.{Literal}
 use Rattle.expr_reader.specs.declared.written.Literal.TheVariants.{Whole, Quoted, Constant as ConstantOf}
 use Rattle.expr_reader.specs.declared.written.Side.{Side as SideRead}
-use Rattle.expr_reader.specs.declared.written.Side.TheVariants.{Column, Literal as LiteralSide}
+use Rattle.expr_reader.specs.declared.written.Side.TheVariants.{Column, Literal as LiteralSide, Typed as TypedSide}
 use Rattle.expr_reader.specs.Scope.{Scope}
-use Rattle.expr_reader.specs.Conditions.{next, BoundSide, of_column, of_literal, compare_sides, side_of, truth_of_constant}
+use Rattle.expr_reader.specs.Types.{type_named}
+use Rattle.expr_reader.specs.Conditions.{next, BoundSide, of_column, of_literal, of_typed, compare_sides, side_of, truth_of_constant}
 
 -- a whole number with its sign and its first token
 abbrev pub whole : Bool → Token → Said → Literal
@@ -32,6 +34,7 @@ literal_of (constant c k) = ConstantOf (truth_of_constant c) k
 abbrev pub side_read : BoundSide → SideRead
 side_read (of_column c t token) = Column c t token
 side_read (of_literal l) = LiteralSide (literal_of l)
+side_read (of_typed n q) = TypedSide (type_named (bytes_of n)) (token_of n) q.value
 
 -- the side that an operand means, or the fault of its column
 abbrev pub side_meant : Scope → (ColRef → SqlType) → OperandTree → Result SideRead Fault

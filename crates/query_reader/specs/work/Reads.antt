@@ -10,7 +10,7 @@ use Rattle.eq_classes.specs.declared.order.OrderItem.{OrderItem}
 use Rattle.sql_grammar.specs.declared.class.Word.TheVariants.{From}
 use Rattle.sql_grammar.specs.Terminals.{Terminal, Ident, t_key, t_name}
 use Rattle.sql_grammar.specs.Syntax.{Mark, Output, Group, Where, OrderBy, WindowTree}
-use Rattle.sql_grammar.specs.work.Unique.{ends_expr, ends_operand}
+use Rattle.sql_grammar.specs.work.Unique.{ends_expr, ends_col}
 use Rattle.sql_grammar.specs.Words.{words_of_col, words_of_expr, words_of_group, words_of_groups, words_of_order, words_of_ordering, words_of_orderings, words_of_output, words_of_outputs, words_of_where, words_of_window}
 use Rattle.expr_reader.specs.declared.cursor.Spelled.{Spelled}
 use Rattle.expr_reader.specs.Lists.{further_parts, bound_each}
@@ -81,7 +81,7 @@ ReadsWhere scope type_of old read left =
 -- the column of an item of ORDER BY, where the list shows these columns
 abbrev pub ReadsOrderColumn : Scope → List ColRef → List Terminal → Result ColRef Refusal → List Terminal → Type 0
 ReadsOrderColumn scope select old read left =
-    IfFirst words_of_col ends_operand old (λ c rest. Reads (λ x. x) (order_column scope select c) rest read left)
+    IfFirst words_of_col ends_col old (λ c rest. Reads (λ x. x) (order_column scope select c) rest read left)
 
 -- an item of ORDER BY
 abbrev pub ReadsOrdering : Scope → List ColRef → List Terminal → Result OrderItem Refusal → List Terminal → Type 0

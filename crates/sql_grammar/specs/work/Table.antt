@@ -1,7 +1,7 @@
 -- The table of the walk: the items that stand in an item's place after a token (own).
 use Rattle.std.specs.Prelude.{◌≡◌, ℕ, Bool, true, false, List, [], ◌∷◌, map, Option, Some, None, MatchOption, cond, nat_eq}
 use Rattle.std.specs.Borrow.{Bor}
-use Rattle.sql_grammar.specs.declared.class.Free.TheVariants.{Advise, Analyze, Between, By, Check, Common, Copy, Csv, Distinct, Explain, First, Format, Full, Histogram, In, Include, Index, Last, Left, Natural, Nulls, Outer, Pages, Plan, Right, Rows, Statistics, Stdin, Use}
+use Rattle.sql_grammar.specs.declared.class.Free.TheVariants.{Advise, Analyze, Between, By, Character, Check, Common, Copy, Csv, Distinct, Explain, First, Format, Full, Histogram, In, Include, Index, Last, Left, Natural, Nulls, Outer, Pages, Plan, Right, Rows, Statistics, Stdin, Time, Timestamp, Use, Varying, Without, Zone}
 use Rattle.sql_grammar.specs.declared.class.Free.{Free}
 use Rattle.sql_grammar.specs.declared.class.Word.{Word}
 use Rattle.sql_grammar.specs.declared.class.Word.TheVariants.{And, As, Asc, Create, Cross, Desc, False, From, Group, Inner, Is, Join, Limit, Not, Null, Offset, On, Or, Order, Select, Table, True, Using, Where, With}
@@ -11,7 +11,7 @@ use Rattle.sql_grammar.specs.declared.class.Class.{Class}
 use Rattle.sql_grammar.specs.declared.class.Class.TheVariants.{Key, Mark, Name, Number, Quoted, Operator, Semicolon, End}
 use Rattle.sql_grammar.specs.declared.rows.TheConstants as rows
 use Rattle.sql_grammar.specs.declared.table.Item.{Item}
-use Rattle.sql_grammar.specs.declared.table.Item.TheVariants.{Keyword, Sign, FreeWord, Label, Digits, QuotedText, Whole, Ends, Stop, Query, Nullness, MoreColumns, Result, MoreResults, AfterResult, StarOrLabel, MaybeAlias, MoreJoins, MoreGroups, MaybeWhere, Figures, MaybeCommon, MoreShares, MaybeHistogram, MoreBounds, Literal, Negation, MoreAnds, MoreOrs, Closes, NotEnds, AfterName, AfterColumn, AfterNot, AfterIs, AfterLiteral, AfterTruth, Side, AfterQualifier, MaybeOrder, MoreOrderings, MaybeLimit, MaybeOffset, MaybeDirection, MaybeNulls, FirstOrLast, AfterCreate, MaybeUsing, MaybeClass, MoreKeys, MaybeInclude, MoreNames, AfterExplain, Candidate, MoreCands, AdvisedSelect, MoreAdvised, FirstItem, AfterDistinct, PlainItem, AfterPlain, PlainNext, PlainTail, GroupedItem, AfterGroupedName, MoreGroupedItems, Argument, MaybeGroup, MoreGroupColumns}
+use Rattle.sql_grammar.specs.declared.table.Item.TheVariants.{Keyword, Sign, FreeWord, Label, Digits, QuotedText, Whole, Ends, Stop, Query, ColumnType, MaybeVarying, MaybeModifiers, MoreModifiers, MaybeZone, Nullness, MoreColumns, Result, MoreResults, AfterResult, StarOrLabel, MaybeAlias, MoreJoins, MoreGroups, MaybeWhere, Figures, MaybeCommon, MoreShares, MaybeHistogram, MoreBounds, Literal, Negation, MoreAnds, MoreOrs, Closes, NotEnds, AfterName, AfterColumn, AfterNot, AfterIs, AfterLiteral, AfterTruth, Side, AfterSide, AfterQualifier, MaybeOrder, MoreOrderings, MaybeLimit, MaybeOffset, MaybeDirection, MaybeNulls, FirstOrLast, AfterCreate, MaybeUsing, MaybeClass, MoreKeys, MaybeInclude, MoreNames, AfterExplain, Candidate, MoreCands, AdvisedSelect, MoreAdvised, FirstItem, AfterDistinct, PlainItem, AfterPlain, PlainNext, PlainTail, GroupedItem, AfterGroupedName, MoreGroupedItems, Argument, MaybeGroup, MoreGroupColumns}
 
 -- the items in an item's place; None where the token is not awaited
 abbrev pub Expansion : Type 0
@@ -64,31 +64,37 @@ free_code Advise = 0
 free_code Analyze = 1
 free_code Between = 2
 free_code By = 3
-free_code Check = 4
-free_code Common = 5
-free_code Copy = 6
-free_code Csv = 7
-free_code Distinct = 8
-free_code Explain = 9
-free_code First = 10
-free_code Format = 11
-free_code Full = 12
-free_code Histogram = 13
-free_code In = 14
-free_code Include = 15
-free_code Index = 16
-free_code Last = 17
-free_code Left = 18
-free_code Natural = 19
-free_code Nulls = 20
-free_code Outer = 21
-free_code Pages = 22
-free_code Plan = 23
-free_code Right = 24
-free_code Rows = 25
-free_code Statistics = 26
-free_code Stdin = 27
-free_code Use = 28
+free_code Character = 4
+free_code Check = 5
+free_code Common = 6
+free_code Copy = 7
+free_code Csv = 8
+free_code Distinct = 9
+free_code Explain = 10
+free_code First = 11
+free_code Format = 12
+free_code Full = 13
+free_code Histogram = 14
+free_code In = 15
+free_code Include = 16
+free_code Index = 17
+free_code Last = 18
+free_code Left = 19
+free_code Natural = 20
+free_code Nulls = 21
+free_code Outer = 22
+free_code Pages = 23
+free_code Plan = 24
+free_code Right = 25
+free_code Rows = 26
+free_code Statistics = 27
+free_code Stdin = 28
+free_code Time = 29
+free_code Timestamp = 30
+free_code Use = 31
+free_code Varying = 32
+free_code Without = 33
+free_code Zone = 34
 
 -- what a row says: the token that it takes, whether it is in the grammar, and the items in the item's place
 abbrev pub GrammarRow : Type 0
@@ -137,6 +143,11 @@ rows_of_item Whole = rows_said rows.WHOLE
 rows_of_item Ends = rows_said rows.ENDS
 rows_of_item Stop = rows_said rows.STOP
 rows_of_item Query = rows_said rows.QUERY
+rows_of_item ColumnType = rows_said rows.COLUMN_TYPE
+rows_of_item MaybeVarying = rows_said rows.MAYBE_VARYING
+rows_of_item MaybeModifiers = rows_said rows.MAYBE_MODIFIERS
+rows_of_item MoreModifiers = rows_said rows.MORE_MODIFIERS
+rows_of_item MaybeZone = rows_said rows.MAYBE_ZONE
 rows_of_item Nullness = rows_said rows.NULLNESS
 rows_of_item MoreColumns = rows_said rows.MORE_COLUMNS
 rows_of_item Result = rows_said rows.RESULT
@@ -165,6 +176,7 @@ rows_of_item AfterIs = rows_said rows.AFTER_IS
 rows_of_item AfterLiteral = rows_said rows.AFTER_LITERAL
 rows_of_item AfterTruth = rows_said rows.AFTER_TRUTH
 rows_of_item Side = rows_said rows.SIDE
+rows_of_item AfterSide = rows_said rows.AFTER_SIDE
 rows_of_item AfterQualifier = rows_said rows.AFTER_QUALIFIER
 rows_of_item MaybeOrder = rows_said rows.MAYBE_ORDER
 rows_of_item MoreOrderings = rows_said rows.MORE_ORDERINGS
@@ -223,7 +235,11 @@ level_of _ = 0
 abbrev pub room_of : Item → ℕ
 room_of Whole = 16
 room_of Query = 10
-room_of MoreColumns = 4
+room_of ColumnType = 3
+room_of MaybeModifiers = 2
+room_of MoreModifiers = 2
+room_of MaybeZone = 2
+room_of MoreColumns = 5
 room_of MoreResults = 2
 room_of MoreJoins = 8
 room_of MoreGroups = 9
@@ -236,7 +252,7 @@ room_of MoreBounds = 2
 room_of Negation = 4
 room_of MoreAnds = 5
 room_of MoreOrs = 6
-room_of AfterName = 3
+room_of AfterName = 4
 room_of AfterColumn = 3
 room_of AfterNot = 3
 room_of AfterLiteral = 4

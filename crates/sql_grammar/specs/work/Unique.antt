@@ -23,14 +23,21 @@ token_in (t_operator o) = o.token
 token_in (t_semicolon t) = t
 token_in (t_end t) = t
 
--- the next word, where there is one, goes on no operand before it: it is no dot
+-- the next word, where there is one, goes on no column before it: it is no dot
+abbrev pub ends_col : List Terminal → Bool
+ends_col (t_mark Dot _ ∷ _) = false
+ends_col _ = true
+
+-- the next word, where there is one, goes on no operand before it: it is no dot and no quoted text
 abbrev pub ends_operand : List Terminal → Bool
 ends_operand (t_mark Dot _ ∷ _) = false
+ends_operand (t_quoted _ ∷ _) = false
 ends_operand _ = true
 
--- the next word, where there is one, goes on no atom before it: it is no dot, IS, NOT, IN, BETWEEN or operator
+-- the next word, where there is one, goes on no atom before it: it is no dot, quoted text, IS, NOT, IN, BETWEEN or operator
 abbrev pub ends_atom : List Terminal → Bool
 ends_atom (t_mark Dot _ ∷ _) = false
+ends_atom (t_quoted _ ∷ _) = false
 ends_atom (t_key Not _ ∷ _) = false
 ends_atom (t_name (free In _) ∷ _) = false
 ends_atom (t_name (free Between _) ∷ _) = false
@@ -38,9 +45,10 @@ ends_atom (t_key Is _ ∷ _) = false
 ends_atom (t_operator _ ∷ _) = false
 ends_atom _ = true
 
--- the next word, where there is one, goes on no conjunction before it: it is no dot, IS, NOT, IN, BETWEEN, operator or AND
+-- the next word, where there is one, goes on no conjunction before it: it is no dot, quoted text, IS, NOT, IN, BETWEEN, operator or AND
 abbrev pub ends_conj : List Terminal → Bool
 ends_conj (t_mark Dot _ ∷ _) = false
+ends_conj (t_quoted _ ∷ _) = false
 ends_conj (t_key Not _ ∷ _) = false
 ends_conj (t_name (free In _) ∷ _) = false
 ends_conj (t_name (free Between _) ∷ _) = false
@@ -49,9 +57,10 @@ ends_conj (t_operator _ ∷ _) = false
 ends_conj (t_key And _ ∷ _) = false
 ends_conj _ = true
 
--- the next word, where there is one, goes on no expression before it: it is no dot, operator, IS, NOT, IN, BETWEEN, AND or OR
+-- the next word, where there is one, goes on no expression before it: it is no dot, quoted text, operator, IS, NOT, IN, BETWEEN, AND or OR
 abbrev pub ends_expr : List Terminal → Bool
 ends_expr (t_mark Dot _ ∷ _) = false
+ends_expr (t_quoted _ ∷ _) = false
 ends_expr (t_key Not _ ∷ _) = false
 ends_expr (t_name (free In _) ∷ _) = false
 ends_expr (t_name (free Between _) ∷ _) = false

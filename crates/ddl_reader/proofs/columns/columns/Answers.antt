@@ -17,6 +17,11 @@ returns-in_err-first-clause-read c = λ x xs m rest is.
     let n = first column_parts x xs m rest c.args.from.now is in
     rw (p.1, p.2) (err-reads seen (λ (v : Vec ColumnDef Global). map seen v.items) c.in_err-first.field-0.0 _ _ (c.in_err-first.ensures.read x _ (columns-end xs m rest) is) (λ f wrong. at-fault column_parts _ [] c.args.from.now m rest n f wrong))
 
+pub one_column-requires : goal.one_column-requires
+one_column-requires c =
+    let (x, xs, m, rest, is) = c.requires in
+    (x, words_of_columns xs ++ t_mark Close m ∷ rest, columns-end xs m rest, is)
+
 pub more-init : goal.more-init
 more-init c = (
   omega (arith, c.in_ok-push.ensures.len),
@@ -55,4 +60,4 @@ one_column-requires-in-more c =
     let (x, xs, m, rest, is) = c.requires in
     let (token, comma) = c.more-test.ensures.took refl in
     let n = next column_parts _ (map seen c.more.all.items) c.more.from c.takes_mark.new.self token m rest comma (c.more.invariant.1 x xs m rest is) in
-    (n.y, words_of_columns n.ys ++ t_mark Close m ∷ rest, n.words)
+    (n.y, words_of_columns n.ys ++ t_mark Close m ∷ rest, columns-end n.ys m rest, n.words)

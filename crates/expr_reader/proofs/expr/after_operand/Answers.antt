@@ -4,11 +4,12 @@ use Rattle.pg_expr.specs.work.View.{cond}
 use Rattle.pg_expr.specs.declared.expr.Expr.{Expr}
 use Rattle.sql_grammar.specs.declared.class.Free.TheVariants.{Between, In}
 use Rattle.sql_grammar.specs.Terminals.{Terminal}
+use Rattle.sql_grammar.proofs.ExprTrees.{atom-dotless}
 use Rattle.expr_reader.specs.work.Reading.{free_name}
 use Rattle.expr_reader.specs.Conditions.{literals_after, meaning_of_atom, of_column}
 use Rattle.expr_reader.specs.work.Expressions.{against, each_equal}
 use Rattle.expr_reader.specs.declared.written.Side.TheVariants.{Column}
-use Rattle.expr_reader.proofs.AtomLemmas.{column-atom, constant-atom}
+use Rattle.expr_reader.proofs.AtomLemmas.{column-atom, comparison-next, constant-atom, no-typed}
 use Rattle.expr_reader.proofs.ListLemmas.{any, both, list-next, listed-read, listed-side, negated-read, none-next, perhaps_negated, range-next, TakesNot}
 use Rattle.expr_reader.proofs.ReadsLemmas.{read-fault, read-ok, read-refused, read-want, seen-err, seen-ok, was-read}
 use Rattle.expr_reader.proofs.expr.after_operand.Goals as goal
@@ -123,3 +124,19 @@ returns-in_ok-column_test-in-Column-left-clause-read g c = λ a s rest flat ends
     (λ said left e. c.in_default.ensures.1 said left (sym same ∙ e)) n.lists (λ i k left e. c.column_test.ensures.plain i k left (back ∙ e)) (λ i j k left e. c.column_test.ensures.negated i j k left (back ∙ e)) (λ none. ((c.column_test.ensures.alone (λ left (t, e). none left (t, sym back ∙ e))).0, (c.column_test.ensures.alone (λ left (t, e). none left (t, sym back ∙ e))).1 ∙ back)) in
     read-ok Expr Cond cond (meaning_of_atom scope types a) c.in_ok-column_test-in-Column-left.field-0 rest c.column_test.new.from
     (seen-ok Expr Cond cond c.column_test.result (meaning_of_atom scope types a) c.in_ok-column_test-in-Column-left.field-0 told.0 c.in_ok-column_test-in-Column-left.was) told.1
+
+pub comparison-requires : goal.comparison-requires
+comparison-requires g c =
+    let (a, s, rest, flat, ends, side, read, is) = c.requires in
+    let n = comparison-next a rest c.args.from.now c.operator.new.self c.in-Some.operator flat ends c.in-Some.ensures is in
+    (n.upper, rest, atom-dotless rest ends, n.words)
+
+pub unreachable-requires-in-Typed : goal.unreachable-requires-in-Typed
+unreachable-requires-in-Typed g c =
+    let (a, s, rest, flat, ends, side, read, is) = c.requires in
+    let scope = g.S.Scope.visible c.args.scope.now in
+    let types = g.S.Scope.type_of c.args.scope.now in
+    let same = c.in_default.ensures.0 in
+    let not : TakesNot c.takes-negated.result c.operator.new.self c.takes-negated.new.self = record { took = c.takes-negated.ensures.took; left = c.takes-negated.ensures.left; other = c.takes-negated.ensures.other } in
+    let n = none-next scope types a rest c.operator.new.self c.takes-negated.new.self c.takes-negated.result flat ends (same ∙ is) (λ said left e. c.in_default.ensures.1 said left (sym same ∙ e)) not c.in_default-free_word.ensures.1 (λ left (t, e). c.in_default-free_word-2.ensures.1 left (t, c.in_default-free_word.ensures.0 ∙ e)) in
+    no-typed scope types a s rest c.operator.new.self c.in-Typed.field-0 c.in-Typed.field-1 c.in-Typed.field-2 flat side (sym c.in-Typed.is ∙ read) (same ∙ is) (λ said left e. c.in_default.ensures.1 said left (sym same ∙ e)) n.lists

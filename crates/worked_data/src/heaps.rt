@@ -72,14 +72,20 @@ fn is_line(row: Row, lines: &[Line], place: u32) -> bool
     }
 }
 
-/// Whether the heap of an int4 column that takes no NULL, a text and a bool column has so many rows after two blocks, these
-/// lines in turn; or the fault of a block.
-fn read(
-    alloc: Global,
-    blocks: (&[u8], &[u8]),
-    count: usize,
-    lines: &[Line],
-) -> Result<bool, CopyFault> {
+/// Three columns.
+#[derive(Clone, Copy)]
+enum Kind {
+    /// An int4 column that takes no NULL, a text and a bool column.
+    Plain,
+    /// A date, a uuid, and a numeric column with two digits behind the point.
+    Typed,
+}
+
+/// The columns of a heap, and two blocks.
+type Blocks<'a> = (Kind, &'a [u8], &'a [u8]);
+
+/// Whether a heap has so many rows after two blocks, these lines in turn; or the fault of a block.
+fn read(alloc: Global, blocks: Blocks, count: usize, lines: &[Line]) -> Result<bool, CopyFault> {
     counted::<Brand, Brand>(alloc, Blank::new(1), Blank::new(1), blocks, count, lines)
 }
 
@@ -87,7 +93,7 @@ fn counted<L: Ledger, M: Ledger>(
     alloc: Global,
     fetching: Blank,
     looking: Blank,
-    blocks: (&[u8], &[u8]),
+    blocks: Blocks,
     count: usize,
     lines: &[Line],
 ) -> Result<bool, CopyFault>
@@ -98,7 +104,7 @@ fn counted<L: Ledger, M: Ledger>(
     requires other_parts { looking.parts ≡ M.parts }
     requires some_too { 0 < looking.parts }
 {
-    let columns = three_columns(alloc)?;
+    let columns = three_columns(alloc, blocks.0)?;
     let mut heap = Heap::<Counting<L, M>>::new(alloc, columns);
     let mut fetches = Steps::<L>::new(fetching);
     let mut looks = Steps::<M>::new(looking);
@@ -111,23 +117,36 @@ fn counted<L: Ledger, M: Ledger>(
 }
 
 /// The first fault of two blocks.
-fn load_both<C: Counters>(heap: &mut Heap<C>, blocks: (&[u8], &[u8])) -> Option<CopyFault>
+fn load_both<C: Counters>(heap: &mut Heap<C>, blocks: Blocks) -> Option<CopyFault>
     ensures { heap.new.columns ≡ heap.old.columns }
 {
-    match heap.load(blocks.0) {
-        Ok(_) => heap.load(blocks.1).err(),
+    match heap.load(blocks.1) {
+        Ok(_) => heap.load(blocks.2).err(),
         Err(fault) => Some(fault),
     }
 }
 
-fn three_columns(alloc: Global) -> Result<Columns, AllocError>
+fn three_columns(alloc: Global, kind: Kind) -> Result<Columns, AllocError>
     ensures { IfOk result (λ c. length c ≡ 3) }
 {
-    let columns = [
-        column(SqlType::Int4, true),
-        column(SqlType::Text, false),
-        column(SqlType::Bool, false),
-    ];
+    let columns = match kind {
+        Kind::Plain => [
+            column(SqlType::Int4, true),
+            column(SqlType::Text, false),
+            column(SqlType::Bool, false),
+        ],
+        Kind::Typed => [
+            column(SqlType::Date, false),
+            column(SqlType::Uuid, false),
+            column(
+                SqlType::Numeric {
+                    digits: 10,
+                    scale: 2,
+                },
+                false,
+            ),
+        ],
+    };
     Ok(Columns::from_vec(Vec::from_slice(alloc, &columns)?))
 }
 
@@ -181,11 +200,44 @@ const RECORDS: [Read; 12] = [
     (b"1,a,t", b"2,b,f", &[A, B]),
 ];
 
+const LEAP_DAY: Line = [
+    Shown::Int(8_825),
+    Shown::Text(b"a0eebc99-9c0b-4ef8-bb6d-6bb9bd380a11"),
+    Shown::Int(1_250),
+];
+
+const NOTHING: Line = [Shown::Null, Shown::Null, Shown::Null];
+
+const TYPED_RECORDS: [Read; 3] = [
+    (
+        b"",
+        b"2024-02-29,A0EEBC99-9C0B-4EF8-BB6D-6BB9BD380A11,12.5\n\\N,\\N,\\N",
+        &[LEAP_DAY, NOTHING],
+    ),
+    (
+        b"\\N,\\N,\"\\N\"\n",
+        b" 2024-02-29 ,a0eebc99-9c0b-4ef8-bb6d-6bb9bd380a11, +0012.500\n",
+        &[NOTHING, LEAP_DAY],
+    ),
+    (
+        b"",
+        b"\"1999-12-31\",\"00000000-0000-0000-0000-00000000000F\",\"-0.05\"\n0001-01-01,\\N,-0.00",
+        &[
+            [
+                Shown::Int(-1),
+                Shown::Text(b"00000000-0000-0000-0000-00000000000f"),
+                Shown::Int(-5),
+            ],
+            [Shown::Int(-730_119), Shown::Null, Shown::Int(0)],
+        ],
+    ),
+];
+
 /// The place of the first blocks whose rows are other ones.
-fn first_other(alloc: Global, rows: &[Read]) -> Option<usize> {
+fn first_other(alloc: Global, kind: Kind, rows: &[Read]) -> Option<usize> {
     for n in 0..rows.len() {
         let (first, second, lines) = rows[n];
-        if read(alloc, (first, second), lines.len(), lines) != Ok(true) {
+        if read(alloc, (kind, first, second), lines.len(), lines) != Ok(true) {
             return Some(n);
         }
     }
@@ -194,7 +246,8 @@ fn first_other(alloc: Global, rows: &[Read]) -> Option<usize> {
 
 #[test]
 fn records(rt: HostRuntime) {
-    assert_eq!(rt; first_other(rt.alloc(), &RECORDS), None);
+    assert_eq!(rt; first_other(rt.alloc(), Kind::Plain, &RECORDS), None);
+    assert_eq!(rt; first_other(rt.alloc(), Kind::Typed, &TYPED_RECORDS), None);
 }
 
 /// A block behind one good row, and its first fault.
@@ -226,15 +279,93 @@ const FAULTS: [Faulty; 5] = [
     ),
 ];
 
+const TYPED_FAULTS: [Faulty; 10] = [
+    (
+        b"2023-02-29,x,x",
+        CopyFault::Range {
+            rec: 1,
+            col: ColNo(0),
+        },
+    ),
+    (
+        b"x,\\N,1",
+        CopyFault::Invalid {
+            rec: 1,
+            col: ColNo(0),
+        },
+    ),
+    (
+        b",\\N,\\N",
+        CopyFault::Invalid {
+            rec: 1,
+            col: ColNo(0),
+        },
+    ),
+    (
+        b"\\N,x,1",
+        CopyFault::Invalid {
+            rec: 1,
+            col: ColNo(1),
+        },
+    ),
+    (
+        b"\\N, 00000000-0000-4000-8000-000000000000,1",
+        CopyFault::Invalid {
+            rec: 1,
+            col: ColNo(1),
+        },
+    ),
+    (
+        b"\\N,\\N,12.345",
+        CopyFault::Range {
+            rec: 1,
+            col: ColNo(2),
+        },
+    ),
+    (
+        b"2024-02-29,\\N,1\n\\N,\\N,100000000",
+        CopyFault::Range {
+            rec: 2,
+            col: ColNo(2),
+        },
+    ),
+    (
+        b"\\N,\\N,1e2",
+        CopyFault::Invalid {
+            rec: 1,
+            col: ColNo(2),
+        },
+    ),
+    (
+        b"\\N,\\N,",
+        CopyFault::Invalid {
+            rec: 1,
+            col: ColNo(2),
+        },
+    ),
+    (
+        b"2024-02-29 00:00,\\N,1",
+        CopyFault::Invalid {
+            rec: 1,
+            col: ColNo(0),
+        },
+    ),
+];
+
 /// The fault of two blocks, none where both are read.
-fn fault_of(alloc: Global, first: &[u8], second: &[u8]) -> Option<CopyFault> {
-    read(alloc, (first, second), 0, &[]).err()
+fn fault_of(alloc: Global, blocks: Blocks) -> Option<CopyFault> {
+    read(alloc, blocks, 0, &[]).err()
 }
 
-/// The first block with another fault.
-fn first_of_fault<'a>(alloc: Global, rows: &[Faulty<'a>]) -> Option<&'a [u8]> {
-    for (block, fault) in rows {
-        if fault_of(alloc, b"7,z,f", block) != Some(*fault) {
+/// The first block with another fault behind a row of such columns.
+fn first_of_fault<'a>(
+    alloc: Global,
+    kind: Kind,
+    row: &[u8],
+    faults: &[Faulty<'a>],
+) -> Option<&'a [u8]> {
+    for (block, fault) in faults {
+        if fault_of(alloc, (kind, row, block)) != Some(*fault) {
             return Some(*block);
         }
     }
@@ -243,7 +374,12 @@ fn first_of_fault<'a>(alloc: Global, rows: &[Faulty<'a>]) -> Option<&'a [u8]> {
 
 #[test]
 fn first_faults(rt: HostRuntime) {
-    assert_eq!(rt; first_of_fault(rt.alloc(), &FAULTS), None);
+    let (alloc, plain, typed) = (rt.alloc(), Kind::Plain, Kind::Typed);
+    assert_eq!(rt; first_of_fault(alloc, plain, b"7,z,f", &FAULTS), None);
+    assert_eq!(rt;
+        first_of_fault(alloc, typed, b"2000-01-01,\\N,0", &TYPED_FAULTS),
+        None
+    );
 }
 
 /// Adds so many rows.
@@ -266,8 +402,8 @@ fn add_long(row: &mut Vec<u8>, letters: u32, end: &[u8]) -> Result<(), AllocErro
 /// Whether a heap takes a hundred thousand rows and refuses one more.
 fn takes_most(rows: &mut Vec<u8>, alloc: Global) -> bool {
     add_rows(rows, 100_000).is_ok()
-        && read(alloc, (b"", rows), 100_000, &[A]) == Ok(true)
-        && fault_of(alloc, rows, b"1") == Some(CopyFault::TooMany { rec: 1 })
+        && read(alloc, (Kind::Plain, b"", rows), 100_000, &[A]) == Ok(true)
+        && fault_of(alloc, (Kind::Plain, rows, b"1")) == Some(CopyFault::TooMany { rec: 1 })
 }
 
 #[test]
@@ -279,7 +415,7 @@ fn most_rows(rt: HostRuntime) {
 /// Makes a row with a text of 8192 letters and what stands behind it. Its fault.
 fn fault_behind(row: &mut Vec<u8>, alloc: Global, end: &[u8]) -> Option<CopyFault> {
     match add_long(row, 8192, end) {
-        Ok(()) => fault_of(alloc, b"", row),
+        Ok(()) => fault_of(alloc, (Kind::Plain, b"", row)),
         Err(_) => None,
     }
 }
@@ -314,8 +450,8 @@ fn two_heaps<C: Counters>(alloc: Global) -> Result<Heaps<C>, Memory>
     ensures { IfOk result (λ h. length h ≡ 2) }
 {
     let mut heaps = Heaps::new(alloc);
-    heaps.add(Heap::new(alloc, three_columns(alloc)?))?;
-    heaps.add(Heap::new(alloc, three_columns(alloc)?))?;
+    heaps.add(Heap::new(alloc, three_columns(alloc, Kind::Plain)?))?;
+    heaps.add(Heap::new(alloc, three_columns(alloc, Kind::Plain)?))?;
     Ok(heaps)
 }
 

@@ -54,6 +54,22 @@ fn first_other(columns: &[SortColumn], rows: &[Compared]) -> Option<Compared> {
     None
 }
 
+/// Days, the later one first, and numbers with digits behind the point.
+const DATED: [Compared; 4] = [
+    ([Some(-1), Some(5)], [Some(0), Some(5)], Ordering::Greater),
+    (
+        [Some(8_825), Some(-5)],
+        [Some(8_825), Some(3)],
+        Ordering::Less,
+    ),
+    (
+        [Some(8_825), Some(-5)],
+        [Some(8_825), Some(5)],
+        Ordering::Less,
+    ),
+    ([None, Some(5)], [Some(2_921_939), Some(-5)], Ordering::Less),
+];
+
 #[test]
 fn keys_of_two_columns(rt: HostRuntime) {
     let columns = [
@@ -61,4 +77,9 @@ fn keys_of_two_columns(rt: HostRuntime) {
         column(Family::IntAbs, true, true),
     ];
     assert_eq!(rt; first_other(&columns, &COMPARED), None);
+    let dated = [
+        column(Family::Date, true, true),
+        column(Family::Numeric(2), false, false),
+    ];
+    assert_eq!(rt; first_other(&dated, &DATED), None);
 }

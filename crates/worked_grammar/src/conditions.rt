@@ -239,7 +239,7 @@ fn fault(code: Code, from: u32, to: u32) -> Refusal {
 }
 
 /// Whether the text of an expression's meaning is this one.
-fn is_shown(alloc: Global, e: &Expr, meaning: &[u8]) -> bool {
+pub(crate) fn is_shown(alloc: Global, e: &Expr, meaning: &[u8]) -> bool {
     let mut out = Vec::new(alloc);
     put(&mut out, e).is_ok() && out.as_slice() == meaning
 }

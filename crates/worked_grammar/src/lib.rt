@@ -4,6 +4,8 @@
 #[cfg(test)]
 mod conditions;
 #[cfg(test)]
+mod literals;
+#[cfg(test)]
 mod statements;
 #[cfg(test)]
 mod words;

@@ -190,7 +190,7 @@ const WINDOWED: [(&[u8], Result<u32, u32>); 14] = [
 ];
 
 /// Texts, and the end of the expression at their beginning, or the place of its syntax fault.
-const EXPRESSIONS: [(&[u8], Result<u32, u32>); 8] = [
+const EXPRESSIONS: [(&[u8], Result<u32, u32>); 16] = [
     (b"a = 1;", Ok(3)),
     (b"a IS NOT NULL AND b)", Ok(6)),
     (b"NOT (a OR b) c;", Ok(6)),
@@ -199,6 +199,78 @@ const EXPRESSIONS: [(&[u8], Result<u32, u32>); 8] = [
     (b"t.a < 'x' OR;", Err(12)),
     (b"1;", Err(1)),
     (b"(a;", Err(2)),
+    (b"d = date '2024-02-29';", Ok(4)),
+    (b"DATE '2024-02-29' < timestamptz '2024-03-01') d", Ok(5)),
+    (
+        b"timestamp '2024-01-01' < a AND zone '1' = without '2' AND time;",
+        Ok(12),
+    ),
+    (b"d = date 5;", Ok(3)),
+    (b"d = timestamp with time zone '2024-02-29';", Ok(3)),
+    (b"date '2024-02-29';", Err(17)),
+    (b"date '2024-02-29' IS NULL;", Err(18)),
+    (b"t.date '2024-02-29' = d;", Ok(3)),
+];
+
+/// Statements with types of columns and literals, and the place of the syntax fault, if there is one.
+const TYPES: [(&[u8], Option<u32>); 27] = [
+    (b"CREATE TABLE t (a varchar(3), b varchar NOT NULL);", None),
+    (
+        b"CREATE TABLE t (a character varying, b CHARACTER VARYING (3) NULL);",
+        None,
+    ),
+    (
+        b"CREATE TABLE t (a timestamp, b timestamp(6) without time zone NOT NULL);",
+        None,
+    ),
+    (
+        b"CREATE TABLE t (a timestamp with time zone, b TIMESTAMP(6) WITH TIME ZONE);",
+        None,
+    ),
+    (
+        b"CREATE TABLE t (a numeric(10, 2), b decimal(5), c numeric);",
+        None,
+    ),
+    (
+        b"CREATE TABLE t (a uuid, b date NULL, c timestamptz(6) NOT NULL, d nope(1, 2, 3));",
+        None,
+    ),
+    (
+        b"CREATE TABLE date (date date, time time, zone zone, without without, varying varying);",
+        None,
+    ),
+    (
+        b"CREATE TABLE timestamp (timestamp timestamp, character character);",
+        None,
+    ),
+    (b"CREATE TABLE t (a numeric(10, -2));", Some(30)),
+    (b"CREATE TABLE x (a timestamp with zone);", Some(33)),
+    (b"CREATE TABLE x (a timestamp with time);", Some(37)),
+    (b"CREATE TABLE x (a timestamp time zone);", Some(28)),
+    (b"CREATE TABLE x (a timestamptz with time zone);", Some(30)),
+    (
+        b"CREATE TABLE x (a timestamp with time zone (6));",
+        Some(43),
+    ),
+    (b"CREATE TABLE x (a date without time zone);", Some(23)),
+    (b"CREATE TABLE x (a varchar varying);", Some(26)),
+    (b"CREATE TABLE x (a varchar());", Some(26)),
+    (b"CREATE TABLE x (a varchar('3'));", Some(26)),
+    (b"CREATE TABLE x (a varchar(-3));", Some(26)),
+    (b"CREATE TABLE x (a varchar(3);", Some(28)),
+    (b"CREATE TABLE x (a double precision);", Some(25)),
+    (
+        b"CREATE TABLE x (a timestamp(6) with time zone NOT NULL, b uuid uuid);",
+        Some(63),
+    ),
+    (b"CREATE TABLE x (a numeric, b varchar();", Some(37)),
+    (
+        b"STATISTICS t.d DISTINCT 9 NULLS 0 COMMON (date '2024-02-29' 5);",
+        Some(42),
+    ),
+    (b"SELECT a FROM t WHERE d = date 5;", Some(31)),
+    (b"SELECT a FROM t WHERE t.date '2024-02-29' = d;", Some(29)),
+    (b"SELECT a FROM t WHERE d = date '2024-02-29';", None),
 ];
 
 /// Texts, and the end of the candidate for an index at their beginning, or the place of its syntax fault.
@@ -345,6 +417,21 @@ fn first_end<'a>(
 
 fn syntax(at: u32) -> Refusal {
     Refusal::Fault(Fault::syntax(at))
+}
+
+/// The first of some statements that has more than 100 bytes, or another fault than told.
+fn first_type<'a>(alloc: Global, rows: &[(&'a [u8], Option<u32>)]) -> Option<&'a [u8]> {
+    for (text, at) in rows {
+        if text.len() > 100 || first_fault(alloc, text) != Ok(at.map(Fault::syntax)) {
+            return Some(*text);
+        }
+    }
+    None
+}
+
+#[test]
+fn types_are_words_and_modifiers(rt: HostRuntime) {
+    assert_eq!(rt; first_type(rt.alloc(), &TYPES), None);
 }
 
 #[test]

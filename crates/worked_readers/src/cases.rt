@@ -2,10 +2,11 @@
 
 ghost use Rattle.std.specs.Prelude.{◌≤◌, ◌^◌, length};
 
-use crate::tables::{one_table, two_tables};
+use crate::tables::{one_column, one_table, two_tables};
 use crate::{definitions, indexes, parts, selects, windows};
 use catalog::{Catalog, CatalogFault};
 use pg_base::{Code, Fault, Memory, Refusal};
+use pg_value::SqlType;
 use std::alloc::Global;
 
 /// A statement, or a part of one, and its first fault: its kind, its place and where its words end.
@@ -44,17 +45,19 @@ pub(crate) enum Cases<'a> {
     Limited(&'a [parts::Limited<'a>]),
 }
 
-/// The table a of three columns, or the tables t and s of two columns each.
+/// The table a of three columns, the tables t and s of two columns each, or the table v of one column of a type.
 #[derive(Clone, Copy)]
 pub(crate) enum Tables {
     One,
     Two,
+    Of(SqlType),
 }
 
 fn catalogue(alloc: Global, tables: Tables) -> Result<Catalog, CatalogFault> {
     match tables {
         Tables::One => one_table(alloc),
         Tables::Two => two_tables(alloc),
+        Tables::Of(t) => one_column(alloc, t),
     }
 }
 

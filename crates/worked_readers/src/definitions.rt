@@ -62,12 +62,7 @@ const WRONG: [Wrong; 48] = [
     (b"CREATE TABLE select (a int4);", Code::S1, 13, 13),
     (b"CREATE TABLE t (a int4) x;", Code::S1, 24, 24),
     (b"CREATE t (a int4);", Code::S1, 7, 7),
-    (
-        b"CREATE TABLE t (a Int4 NULL, b VARCHAR);",
-        Code::S8,
-        31,
-        38,
-    ),
+    (b"CREATE TABLE t (a Int4 NULL, b MONEY);", Code::S8, 31, 36),
     (b"CREATE TABLE t (a int4, b);", Code::S1, 25, 25),
     (b"CREATE TABLE t (a int4 b int4);", Code::S1, 23, 23),
     (b"CREATE TABLE t ();", Code::S1, 16, 16),

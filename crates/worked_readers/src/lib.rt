@@ -14,4 +14,6 @@ mod selects;
 #[cfg(test)]
 mod tables;
 #[cfg(test)]
+mod typed;
+#[cfg(test)]
 mod windows;

@@ -19,6 +19,16 @@ pub(crate) fn one_table(alloc: Global) -> Result<Catalog, CatalogFault> {
     Ok(catalog)
 }
 
+/// The table v, of c, a column of this type.
+pub(crate) fn one_column(alloc: Global, t: SqlType) -> Result<Catalog, CatalogFault> {
+    let named = name(alloc, b'v')?;
+    let names = names(alloc, b"c")?;
+    let types = columns(alloc, &[t])?;
+    let mut catalog = Catalog::new(alloc);
+    catalog.add_table(named, names, types)?;
+    Ok(catalog)
+}
+
 /// Adds a table of two int4 columns, each name of one letter.
 fn add(
     catalog: &mut Catalog,

@@ -55,12 +55,17 @@ fn column_of(typed: SqlType) -> Column {
     }
 }
 
-/// Three columns: int4, int8, bool.
+/// Five columns: int4, int8, bool, date, and a numeric with two digits behind the point.
 fn columns(alloc: Global) -> Result<Columns, Memory> {
     let columns = [
         column_of(SqlType::Int4),
         column_of(SqlType::Int8),
         column_of(SqlType::Bool),
+        column_of(SqlType::Date),
+        column_of(SqlType::Numeric {
+            digits: 10,
+            scale: 2,
+        }),
     ];
     Ok(Columns::from_vec(Vec::from_slice(alloc, &columns)?))
 }
@@ -168,7 +173,16 @@ const ONE_OF: Given = Given::Two(
     Part::Or((0, Op::Eq, 1), (0, Op::Eq, 2)),
 );
 
-const IMPLIED: [Implied; 12] = [
+/// The days 2023-12-31, 2024-01-01 and 2024-02-29.
+const EVE: i64 = 8_765;
+
+const NEW_YEAR: i64 = 8_766;
+
+const LEAP_DAY: i64 = 8_825;
+
+const FROM_NEW_YEAR: Part = Part::Compare(3, Op::Ge, NEW_YEAR);
+
+const IMPLIED: [Implied; 20] = [
     // each part of a goal
     (TENS, Part::Given(1), true),
     (TENS, Part::Given(2), false),
@@ -193,6 +207,44 @@ const IMPLIED: [Implied; 12] = [
     // a negated flag is its own goal
     (Given::One(Part::NotFlag), Part::NotFlag, true),
     (Given::One(Part::NotFlag), Part::Given(2), false),
+    // days: one above the last day of a year is not taken to be one of the next year
+    (Given::One(FROM_NEW_YEAR), FROM_NEW_YEAR, true),
+    (
+        Given::One(Part::Compare(3, Op::Gt, EVE)),
+        FROM_NEW_YEAR,
+        false,
+    ),
+    (
+        Given::One(Part::Compare(3, Op::Eq, LEAP_DAY)),
+        FROM_NEW_YEAR,
+        true,
+    ),
+    (
+        Given::One(Part::Compare(3, Op::Ge, EVE)),
+        FROM_NEW_YEAR,
+        false,
+    ),
+    (
+        Given::One(Part::Compare(3, Op::Gt, NEW_YEAR)),
+        Part::Given(3),
+        true,
+    ),
+    // hundredths, and no comparison of another column with the number
+    (
+        Given::One(Part::Compare(4, Op::Lt, 1_250)),
+        Part::Compare(4, Op::Ne, 1_250),
+        true,
+    ),
+    (
+        Given::One(Part::Compare(4, Op::Le, 1_250)),
+        Part::Compare(4, Op::Lt, 1_250),
+        false,
+    ),
+    (
+        Given::One(Part::Compare(3, Op::Eq, NEW_YEAR)),
+        Part::Compare(4, Op::Ge, NEW_YEAR),
+        false,
+    ),
 ];
 
 /// Whether this is the answer of whether clauses imply the condition of relation 0.

@@ -12,4 +12,6 @@ mod families;
 #[cfg(test)]
 mod implications;
 #[cfg(test)]
+mod scales;
+#[cfg(test)]
 mod trees;

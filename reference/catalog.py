@@ -6,10 +6,10 @@ from typing import Any, Callable
 
 from .opfamily import rank, sort_by
 from .pg_expr import Expr, test_of
-from .pg_value import Value
+from .pg_value import SqlType, Value
 
 # A column: its name, its type, and whether it takes no NULL.
-ColumnDef = tuple[str, str, bool]
+ColumnDef = tuple[str, SqlType, bool]
 # A key of an index: its column, its family, whether it is descending, and whether NULLs are first.
 Key = tuple[int, str, bool, bool]
 

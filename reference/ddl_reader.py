@@ -5,9 +5,9 @@ from __future__ import annotations
 from types import SimpleNamespace as Node
 
 from .catalog import Catalog, ColumnStats, Table
-from .expr_reader import find_column, find_table, read_quoted, refuse_repeats
-from .pg_base import DUPLICATE_NAME, INVALID_PARAMETER, LIMIT, OUT_OF_RANGE, UNKNOWN, WRONG_TYPE, Fault
-from .pg_value import TYPE_WORDS, Value, in_range, kind_of, number_of
+from .expr_reader import find_column, find_table, read_number, read_quoted, refuse_repeats
+from .pg_base import DUPLICATE_NAME, INVALID_PARAMETER, LIMIT, UNKNOWN, WRONG_TYPE, Fault
+from .pg_value import NUMERIC_WORDS, TYPE_WORDS, WIDTHS, Numeric, SqlType, Value, number_of
 from .sql_grammar import Written
 from .sql_lex import Token
 
@@ -17,13 +17,17 @@ MOST_COLUMNS = 32
 MOST_TABLES = 64
 MOST_COMMON = 16
 MOST_BOUNDS = 101
+MOST_DIGITS = 18
+MOST_CHARACTERS = 10485760
+# Types of several words, and the word that has their meaning.
+LONG_NAMES = {"character varying": "varchar", "timestamp without time zone": "timestamp", "timestamp with time zone": "timestamptz"}
+# The words with a number in parentheses, and the least and the most that the number may be.
+SIZES = {"varchar": (1, MOST_CHARACTERS), "timestamp": (6, 6), "timestamptz": (6, 6)}
 
 
 def read_table(node: Node, catalog: Catalog) -> Table:
     """The table of a CREATE TABLE."""
-    for c in node.columns:
-        if c.type_word.text not in TYPE_WORDS:
-            raise Fault(UNKNOWN, c.type_word.start, c.type_word.text)
+    types = [_read_type(c.type) for c in node.columns]
     if len(node.columns) > MOST_COLUMNS:
         raise Fault(LIMIT, node.columns[MOST_COLUMNS].name.start, "columns")
     if catalog.is_taken(node.name.text):
@@ -31,7 +35,26 @@ def read_table(node: Node, catalog: Catalog) -> Table:
     refuse_repeats([c.name for c in node.columns])
     if len(catalog.tables) >= MOST_TABLES:
         raise Fault(LIMIT, node.name.start, "tables")
-    return Table(node.name.text, [(c.name.text, TYPE_WORDS[c.type_word.text], c.not_null) for c in node.columns])
+    return Table(node.name.text, [(c.name.text, typed, c.not_null) for c, typed in zip(node.columns, types)])
+
+
+def _read_type(node: Node) -> SqlType:
+    """The type of a column: its words first, then the numbers behind them."""
+    word = LONG_NAMES.get(node.words, node.words)
+    is_numeric = word in NUMERIC_WORDS
+    if word not in TYPE_WORDS and not (is_numeric and node.modifiers):
+        raise Fault(UNKNOWN, node.token.start, node.words)
+    most = 2 if is_numeric else 1 if word in SIZES else 0
+    sizes = [number_of(token.text) for token in node.modifiers]
+    least, greatest = (1, MOST_DIGITS) if is_numeric else SIZES.get(word, (0, 0))
+    if sizes and (len(sizes) > most or not least <= sizes[0] <= greatest):
+        raise Fault(INVALID_PARAMETER, node.modifiers[0].start)
+    if not is_numeric:
+        return TYPE_WORDS[word]
+    digits, scale = (*sizes, 0)[:2]
+    if scale > digits:
+        raise Fault(INVALID_PARAMETER, node.modifiers[1].start)
+    return Numeric(digits, scale)
 
 
 def read_sizes(node: Node, catalog: Catalog) -> tuple[Table, int, int]:
@@ -77,18 +100,15 @@ def _shares(common: list[tuple[Written, Token]], values: list[Value], distinct: 
     return shares
 
 
-def _value(literal: Written, typed: str) -> Value:
+def _value(literal: Written, typed: SqlType) -> Value:
     """A literal of COMMON or HISTOGRAM as a value of the column's type."""
     _, kind, value, at = literal
     if kind == "null":
         raise Fault(INVALID_PARAMETER, at)
     if kind == "quoted":
         return read_quoted(typed, value, at)
-    if kind_of(typed) != ("int" if kind == "number" else "bool"):
+    if kind == "number" and (typed in WIDTHS or isinstance(typed, Numeric)):
+        return read_number(typed, value, at)
+    if kind == "number" or typed != "bool":
         raise Fault(WRONG_TYPE, at)
-    if kind != "number":
-        return kind == "true"
-    number = value[0] * number_of(value[1])
-    if not in_range(typed, number):
-        raise Fault(OUT_OF_RANGE, at)
-    return number
+    return kind == "true"

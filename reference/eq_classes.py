@@ -8,7 +8,7 @@ from typing import Any, Callable, Sequence
 from .opfamily import default_family, equality_of, operator_family, rank
 from .pg_base import bits, first
 from .pg_expr import ColumnRef, Expr, Operand, relations
-from .pg_value import kind_of
+from .pg_value import SqlType, kind_of
 
 # An item of ORDER BY or GROUP BY: relation, column, whether it is descending, and whether NULLs are first.
 OrderItem = tuple[int, int, bool, bool]
@@ -19,7 +19,7 @@ Clauses = tuple[int, ...]
 # An equality: the number of its conjunct, its family, and both sides.
 Equality = tuple[int, str, Operand, Operand]
 # The type of a column.
-Typed = Callable[[int, int], str]
+Typed = Callable[[int, int], SqlType]
 
 
 class Class:

@@ -3,9 +3,10 @@
 from __future__ import annotations
 
 from .catalog import Catalog, Table
-from .pg_base import (AMBIGUOUS, DUPLICATE_COLUMN, NO_COLUMN, NO_OPERATOR, NO_TABLE, OUT_OF_RANGE, WRONG_TYPE, Fault)
+from .civil import BadText
+from .pg_base import AMBIGUOUS, DUPLICATE_COLUMN, NO_COLUMN, NO_OPERATOR, NO_TABLE, OUT_OF_RANGE, UNKNOWN, WRONG_TYPE, Fault
 from .pg_expr import Expr, Operand
-from .pg_value import BadText, Value, in_range, kind_of, number_of, operator_exists, read_value
+from .pg_value import TYPE_WORDS, Numeric, SqlType, Value, kind_of, number_of, operator_exists, read_value, whole_value
 from .sql_grammar import Column, Written
 from .sql_lex import Token
 
@@ -16,7 +17,7 @@ class Scope:
     def __init__(self, items: list[tuple[int, str, Table]]) -> None:
         self.items = items
 
-    def column(self, ref: Column) -> tuple[int, int, str]:
+    def column(self, ref: Column) -> tuple[int, int, SqlType]:
         """The relation, the number and the type of a column."""
         qualifier, name = ref
         items = self.items if qualifier is None else [i for i in self.items if i[1] == qualifier.text]
@@ -55,15 +56,15 @@ def refuse_repeats(tokens: list[Token]) -> None:
         seen.add(token.text)
 
 
-def read_number(sign_digits: tuple[int, str], at: int) -> int:
-    """The value of a number, of type int8."""
-    value = sign_digits[0] * number_of(sign_digits[1])
-    if not in_range("int8", value):
+def read_number(sql_type: SqlType, sign_digits: tuple[int, str], at: int) -> int:
+    """The value of a number that is read as an integer type or a numeric."""
+    value = whole_value(sql_type, sign_digits[0] * number_of(sign_digits[1]))
+    if value is None:
         raise Fault(OUT_OF_RANGE, at)
     return value
 
 
-def read_quoted(sql_type: str, text: bytes, at: int) -> Value:
+def read_quoted(sql_type: SqlType, text: bytes, at: int) -> Value:
     """The value of a quoted text that is read as a type."""
     try:
         return read_value(sql_type, text)
@@ -101,7 +102,7 @@ def _comparison(word: Token, left: Written, right: Written, scope: Scope, symbol
     sides = (left, right)
     columns = [scope.column(side[1]) if side[0] == "column" else None for side in sides]
     own = [column[2] if column else _own_type(side) for side, column in zip(sides, columns)]
-    types = [own[n] or own[1 - n] or "text" for n in (0, 1)]
+    types = [_type_beside(side, own[n], own[1 - n]) for n, side in enumerate(sides)]
     read: list[Operand] = []
     for side, column, typed in zip(sides, columns, types):
         read.append(("column", *column[:2]) if column else _literal(side, typed))
@@ -111,16 +112,30 @@ def _comparison(word: Token, left: Written, right: Written, scope: Scope, symbol
     return ("compare", op, read[0], read[1])
 
 
-def _own_type(literal: Written) -> str | None:
-    """The type that a literal has whatever stands beside it."""
-    return {"number": "int8", "true": "bool", "false": "bool"}.get(literal[1])
+def _own_type(literal: Written) -> SqlType | None:
+    """The type that a literal has by itself, None where it has none or where there is no type of its name."""
+    _, kind, value, _ = literal
+    if kind == "typed":
+        return TYPE_WORDS.get(value[0].text)
+    return {"number": "int8", "true": "bool", "false": "bool"}.get(kind)
 
 
-def _literal(literal: Written, typed: str) -> Operand:
-    """A literal as an operand; a quoted one is read as the type."""
+def _type_beside(side: Written, own: SqlType | None, other: SqlType | None) -> SqlType:
+    """The type of an operand beside one of another type: a number beside a numeric is one, and what has no type takes the other's."""
+    if side[0] == "literal" and side[1] == "number" and isinstance(other, Numeric):
+        return other
+    return own or other or "text"
+
+
+def _literal(literal: Written, typed: SqlType) -> Operand:
+    """A literal as an operand, read as the type."""
     _, kind, value, at = literal
     if kind == "number":
-        return ("literal", "int", read_number(value, at))
-    if kind == "quoted":
+        return ("literal", kind_of(typed), read_number(typed, value, at))
+    if kind == "typed":
+        word, value = value
+        if word.text not in TYPE_WORDS:
+            raise Fault(UNKNOWN, at, word.text)
+    if kind in ("typed", "quoted"):
         return ("literal", kind_of(typed), read_quoted(typed, value, at))
     return ("literal", "null", None) if kind == "null" else ("literal", "bool", kind == "true")

@@ -20,7 +20,10 @@ open      = full | EXPLAIN full | EXPLAIN "(" TABLE ")" limited | ADVISE number 
 closed    = COPY name FROM STDIN WITH "(" FORMAT CSV "," NULL quoted ")" | CHECK limited | USE PLAN select
 asked     = "(" limited ")"
 cand      = name ON name [USING name] "(" key { "," key } ")" [INCLUDE "(" name { "," name } ")"] [WHERE expr]
-coldef    = name name [NOT NULL | NULL]
+coldef    = name type [NOT NULL | NULL]
+type      = name [modifiers] | CHARACTER VARYING [modifiers] | TIMESTAMP [modifiers] WITH TIME ZONE
+type      = TIMESTAMP [modifiers] WITHOUT TIME ZONE
+modifiers = "(" number { "," number } ")"
 key       = name [opclass] direction
 direction = [ASC | DESC] [NULLS FIRST | NULLS LAST]
 share     = lit number
@@ -39,14 +42,14 @@ conj      = neg { AND neg }
 neg       = NOT neg | atom
 atom      = "(" expr ")" | operand op operand | col IS [NOT] NULL | col | TRUE | FALSE | NULL
 atom      = col [NOT] IN "(" lit { "," lit } ")" | operand [NOT] BETWEEN operand AND operand
-operand   = col | lit
+operand   = col | lit | name quoted
 col       = name ["." name]
 lit       = ["-"] number | quoted | TRUE | FALSE | NULL
 """
 # A bare name is an alias without AS, an operator class stands in a key.
 KINDS = ("name", "bare", "opclass", "number", "quoted", "op", "end")
 NAMES = ("a b t u nulls first last rows pages key count min max index plan all by stdin format csv int4 text common in between distinct "
-         "left right full natural outer x1 _x include").split()
+         "left right full natural outer x1 _x include date timestamp character varying without time zone").split()
 # A part of a body: "t" and a terminal, or "n" and the head of a rule. A terminal in pointed brackets is a kind of token.
 Part = tuple[str, str]
 Rules = dict[str, list[list[Part]]]
@@ -128,7 +131,7 @@ def _word(rng: Random, terminal: str) -> list[str]:
     if terminal == "<number>":
         return [str(rng.randrange(20))]
     if terminal == "<quoted>":
-        return [rng.choice(["'x'", "'\\N'", "'a''b'", "''"])]
+        return [rng.choice(["'x'", "'\\N'", "'a''b'", "''", "'2024-02-29'"])]
     if terminal == "<op>":
         return [rng.choice(sorted(OPERATORS))]
     return [] if terminal == "<end>" else [terminal]

@@ -8,7 +8,7 @@ from .cost_rules import TOO_MUCH, sort
 from .executor import Executor, Tuple
 from .explain import Texts
 from .opfamily import SortKey, default_family, sort_by
-from .pg_value import Value
+from .pg_value import SqlType, Value
 from .plan_space import Space
 from .plan_tree import Finished
 from .planner import Planner
@@ -68,6 +68,10 @@ class Grouping:
         return "".join(lines) + self.texts.sorted_lines(p.base.path, p.base.sort_keys, len(heads))
 
     # -- rows
+
+    def types(self) -> list[SqlType]:
+        """The types of the values that a line shows."""
+        return ["int8" if what == "count" or ref is None else self.q.column_type(*ref) for what, ref in self.by.items]
 
     def lines(self, p: GroupPlan) -> list[list[Value]]:
         """The lines of values that a plan gives, in order."""

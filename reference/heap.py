@@ -2,9 +2,10 @@
 
 from __future__ import annotations
 
-from .catalog import Table
+from .catalog import ColumnDef, Table
+from .civil import BadText
 from .pg_base import COPY_DATA, LIMIT, NULL_VALUE, Fault
-from .pg_value import BadText, Value, read_value
+from .pg_value import Value, read_value
 
 MOST_ROWS = 100_000
 MOST_TEXT = 8192
@@ -107,7 +108,7 @@ def load(table: Table, block: bytes, at: int) -> list[tuple[Value, ...]]:
     return rows
 
 
-def _value(field: bytes, column: tuple[str, str, bool], at: int, number: int) -> Value:
+def _value(field: bytes, column: ColumnDef, at: int, number: int) -> Value:
     """The value of a field."""
     name, typed, not_null = column
     if field == b"\\N":

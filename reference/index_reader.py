@@ -7,7 +7,7 @@ from typing import Collection
 
 from .catalog import Catalog, Index, Key, Table
 from .expr_reader import Scope, find_column, find_table, read_condition, refuse_repeats
-from .opfamily import CLASSES, default_class
+from .opfamily import CLASSES, class_family, default_class, name_of
 from .pg_base import DUPLICATE_NAME, INVALID_PARAMETER, LIMIT, UNKNOWN, WRONG_TYPE, Fault
 from .pg_expr import Expr, operators, push_not
 from .pg_value import number_of
@@ -56,9 +56,9 @@ def _read_key(key: Node, table: Table, method: str) -> Key:
     name = default_class(typed) if key.op_class is None else key.op_class.text
     if name not in CLASSES or method not in CLASSES[name][2]:
         raise Fault(UNKNOWN, key.op_class.start, name)
-    if CLASSES[name][1] != typed:
+    if CLASSES[name][0] != name_of(typed):
         raise Fault(WRONG_TYPE, key.op_class.start)
-    return column, CLASSES[name][0], key.descending, key.nulls_first
+    return column, class_family(name, typed), key.descending, key.nulls_first
 
 
 def _refuse_limits(columns: list, predicate: Expr | None, first: int) -> None:

@@ -181,7 +181,7 @@ def _judge_grouped(p: Planning, grouping: Grouping, kind: str, output: Output) -
         raise Wrong("printed plan that groups costs %d, the least is %d" % (plan.cost, p.least))
     output.take(grouping.text(plan).encode("latin-1"), "plan text")
     if kind == "select":
-        output.take(rows_text(grouping.lines(plan)), "rows of the printed plan")
+        output.take(rows_text(grouping.types(), grouping.lines(plan)), "rows of the printed plan")
 
 
 def _printed_group_plan(p: Planning, grouping: Grouping, lines: list[str]) -> GroupPlan:

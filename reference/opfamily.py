@@ -4,34 +4,39 @@ from __future__ import annotations
 
 from typing import Any, Callable, Iterable
 
-from .pg_value import PLAIN_OPERATORS, SIZE_OPERATORS, WIDTHS, Value
+from .pg_value import PLAIN_OPERATORS, SIZE_OPERATORS, WIDTHS, Numeric, SqlType, Value, kind_of
 
-# Each operator class: its family, the type that it accepts, and the access methods that have it.
+BOTH = ("btree", "hash")
+# Each operator class: the type that it accepts, by its name, whether it goes by absolute values, and the access methods that have it.
 CLASSES = {
-    "int2_ops": ("integer", "int2", ("btree", "hash")),
-    "int4_ops": ("integer", "int4", ("btree", "hash")),
-    "int8_ops": ("integer", "int8", ("btree", "hash")),
-    "text_ops": ("text", "text", ("btree", "hash")),
-    "bool_ops": ("bool", "bool", ("btree", "hash")),
-    "int2_abs_ops": ("abs", "int2", ("btree",)),
-    "int4_abs_ops": ("abs", "int4", ("btree",)),
-    "int8_abs_ops": ("abs", "int8", ("btree",)),
+    **{name + "_ops": (name, False, BOTH) for name in (*WIDTHS, "text", "bool", "uuid", "date", "timestamp", "timestamptz", "numeric")},
+    **{name + "_abs_ops": (name, True, ("btree",)) for name in WIDTHS},
 }
 # How a list is sorted: the value of an item, its family, whether it is descending, and whether NULLs are first.
 SortKey = tuple[Callable[[Any], Value], str, bool, bool]
 
 
-def default_class(sql_type: str) -> str:
+def name_of(sql_type: SqlType) -> str:
+    """The name of a type, without its sizes."""
+    return "numeric" if isinstance(sql_type, Numeric) else sql_type
+
+
+def default_class(sql_type: SqlType) -> str:
     """The operator class that a key has where none is written."""
-    return sql_type + "_ops"
+    return name_of(sql_type) + "_ops"
 
 
-def default_family(sql_type: str) -> str:
-    """The family in which the comparisons of a type are, but for those by absolute value."""
-    return "integer" if sql_type in WIDTHS else sql_type
+def default_family(sql_type: SqlType) -> str:
+    """The family in which the comparisons of a type are, but for those by absolute value. Numerics have one for each scale."""
+    return "integer" if sql_type in WIDTHS else kind_of(sql_type)
 
 
-def operator_family(op: str, kind: str | None) -> str | None:
+def class_family(name: str, sql_type: SqlType) -> str:
+    """The family of an operator class over a type that it accepts."""
+    return "abs" if CLASSES[name][1] else default_family(sql_type)
+
+
+def operator_family(op: str, kind: str) -> str:
     """The family of an operator between operands of a kind. `<>` counts to that of the others."""
     if op in SIZE_OPERATORS:
         return "abs"

@@ -2,7 +2,7 @@
 
 A condition is one of ("compare", operator, left, right), ("isnull", relation, column), ("notnull", relation, column),
 ("bool", relation, column), ("constant", True | False | None), ("and", parts), ("or", parts) and ("not", condition). An operand is
-("column", relation, column) or ("literal", kind, value), of kind int, text, bool or null.
+("column", relation, column) or ("literal", kind, value), of the kind of its type or of kind null.
 """
 
 from __future__ import annotations

@@ -71,7 +71,7 @@ def _comparison_implies(c: Expr, p: Expr) -> bool:
     if literal1[2] is None or literal2[2] is None:
         return False
     family = operator_family(op1, literal1[1])
-    if family is None or family != operator_family(op2, literal2[1]):
+    if family != operator_family(op2, literal2[1]):
         return False
     cell = CELLS[op1.strip("|")].get(op2.strip("|"))
     return cell is not None and cell(rank(family, literal1[2]), rank(family, literal2[2]))

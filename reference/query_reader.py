@@ -16,6 +16,8 @@ from .sql_query import GroupItem, Groups, Query
 MOST_RELATIONS = 10
 MOST_CONJUNCTS = 32
 MOST_ATOMS = 256
+# Types without min and max.
+NO_LEAST = ("bool", "uuid")
 # An item of the select list beside the token at which it is told that it is not grouped.
 Item = tuple[GroupItem, Token]
 
@@ -31,7 +33,7 @@ def read_query(node: Node, catalog: Catalog, first: int) -> Query:
     q.order = [(*_read_order(ref, q, scope), *direction) for ref, direction in node.order]
     keys = list(q.select) if node.distinct else [scope.column(ref)[:2] for ref in node.group_by]
     if node.window:
-        limit, offset = (None if t is None else read_number((1, t.text), t.start) for t in (node.limit, node.offset))
+        limit, offset = (None if t is None else read_number("int8", (1, t.text), t.start) for t in (node.limit, node.offset))
         q.window = (limit, offset or 0)
     if node.grouped:
         q.groups = Groups(keys, [item for item, _ in items])
@@ -91,7 +93,7 @@ def _read_call(item: Node, scope: Scope) -> GroupItem:
     if item.argument is not None:
         relation, column, typed = scope.column(item.argument)
         ref = (relation, column)
-    is_known = word.text == "count" or word.text in ("min", "max") and typed not in (None, "bool")
+    is_known = word.text == "count" or word.text in ("min", "max") and typed not in (None, *NO_LEAST)
     if not is_known:
         raise Fault(NO_OPERATOR, word.start, word.text)
     return word.text, ref

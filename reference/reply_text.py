@@ -2,7 +2,7 @@
 
 from __future__ import annotations
 
-from .pg_value import Value, shown
+from .pg_value import SqlType, Value, shown
 
 
 def field_text(field: bytes) -> bytes:
@@ -12,9 +12,9 @@ def field_text(field: bytes) -> bytes:
     return field
 
 
-def row_text(values: list[Value]) -> bytes:
-    """The line of a row, ended by LF."""
-    body = b",".join(field_text(shown(v)) for v in values)
+def row_text(types: list[SqlType], values: list[Value]) -> bytes:
+    """The line of a row with values of these types, ended by LF."""
+    body = b",".join(field_text(shown(t, v)) for t, v in zip(types, values))
     return (b'""' if len(values) <= 1 and not body else body) + b"\n"
 
 
@@ -23,6 +23,6 @@ def count_text(n: int) -> bytes:
     return b"(1 row)\n" if n == 1 else b"(%d rows)\n" % n
 
 
-def rows_text(rows: list[list[Value]]) -> bytes:
-    """The lines of rows and of their number."""
-    return b"".join(row_text(row) for row in rows) + count_text(len(rows))
+def rows_text(types: list[SqlType], rows: list[list[Value]]) -> bytes:
+    """The lines of rows with values of these types, and of their number."""
+    return b"".join(row_text(types, row) for row in rows) + count_text(len(rows))

@@ -141,13 +141,25 @@ class Parser:
 
     def definition(self) -> Node:
         """A column of CREATE TABLE."""
-        name, type_word, not_null = self.name(), self.name(), False
+        name, typed, not_null = self.name(), self.type(), False
         if self.accept_word("not"):
             self.word("null")
             not_null = True
         else:
             self.accept_word("null")
-        return Node(name=name, type_word=type_word, not_null=not_null)
+        return Node(name=name, type=typed, not_null=not_null)
+
+    def type(self) -> Node:
+        """A column's type: the token that it begins with, all its words, and the numbers in its parentheses."""
+        token = self.name()
+        words = token.text
+        if words == "character" and self.accept_word("varying"):
+            words += " varying"
+        modifiers = self.in_parentheses(self.number) if self.is_symbol("(") else []
+        if words == "timestamp" and (self.is_word("with") or self.is_word("without")):
+            words += f" {self.take().text} time zone"
+            self.word("time", "zone")
+        return Node(token=token, words=words, modifiers=modifiers)
 
     def candidate(self) -> Node:
         """An index: what stands behind CREATE INDEX, or in the list of ADVISE."""
@@ -412,11 +424,16 @@ class Parser:
         return ("not", atom) if negated else atom
 
     def operand(self) -> Written:
-        """A column or a literal."""
-        return ("column", self.column()) if self.is_name() else self.literal()
+        """A column, a literal, or a name with the quoted text that is read as the type of this name."""
+        if not self.is_name():
+            return self.literal()
+        column = self.column()
+        if column[0] is None and self.token.kind == "quoted":
+            return ("literal", "typed", (column[1], self.quoted().text), column[1].start)
+        return ("column", column)
 
     def literal(self) -> Written:
-        """A literal: its kind, its value (of a number a sign and digits) and its offset."""
+        """A literal without a type's name: its kind, its value (of a number a sign and digits) and its offset."""
         start = self.token.start
         for word in ("true", "false", "null"):
             if self.accept_word(word):

@@ -5,6 +5,7 @@ from __future__ import annotations
 from .catalog import Table
 from .eq_classes import Classes, OrderItem
 from .pg_expr import ColumnRef, Expr
+from .pg_value import SqlType
 
 # An item of a grouped select list: "key" or the name of a call, and its column, None for `count(*)`.
 GroupItem = tuple[str, "ColumnRef | None"]
@@ -44,7 +45,7 @@ class Query:
         """The name of a column."""
         return self.rels[ref[0]][0].columns[ref[1]][0]
 
-    def column_type(self, relation: int, column: int) -> str:
+    def column_type(self, relation: int, column: int) -> SqlType:
         """The type of a column."""
         return self.rels[relation][0].columns[column][1]
 

@@ -151,7 +151,7 @@ class Planning:
     def rows(self) -> bytes:
         """The lines of its rows."""
         if self.grouping and self.group_plan:
-            return rows_text(self.grouping.lines(self.group_plan))
+            return rows_text(self.grouping.types(), self.grouping.lines(self.group_plan))
         return rows_of_plan(self.space, self.plan.plan) if self.plan else b""
 
     def certificate(self) -> bytes:
@@ -167,7 +167,7 @@ def rows_of_plan(space: Space, plan: Plan) -> bytes:
     if space.q.window is not None:
         limit, offset = space.q.window
         tuples = tuples[offset:] if limit is None else tuples[offset:offset + limit]
-    return rows_text([executor.shown(t) for t in tuples])
+    return rows_text([space.q.column_type(*ref) for ref in space.q.select], [executor.shown(t) for t in tuples])
 
 
 def checked(statement: Statement, catalog: Catalog) -> tuple[Verdict, Space, Texts]:

@@ -33,22 +33,28 @@ ANALYZE buyers; ANALYZE sales; ANALYZE lines;
 # A query, how pgplan gets it, and each thing that is left out; or the reason why the query is left out.
 QUERIES = [
     ("SELECT id FROM sales", "SELECT sales.id FROM sales", []),
-    ("select S.ID from market.Sales as S where s.TOTAL > 1.5 -- a comment\n", "SELECT s.id FROM sales s WHERE s.total > 150", []),
+    ("select S.ID from market.Sales as S where s.TOTAL > 1.5 -- a comment\n", "SELECT s.id FROM sales s WHERE s.total > '1.50'", []),
     ("SELECT * FROM sales s, lines l WHERE l.sale = s.id AND 3 < s.id", "SELECT * FROM sales s, lines l WHERE l.sale = s.id AND s.id > 3", []),
     ("SELECT s.*, l.line FROM sales s JOIN lines l ON (l.sale = s.id) WHERE l.article IN (1, 2, 2)",
      "SELECT s.*, l.line FROM sales s, lines l WHERE l.sale = s.id AND l.article IN (1, 2)", []),
     ("SELECT id FROM sales WHERE day BETWEEN '2024-01-02' AND date '2024-01-02' + 2 AND state NOT IN ('new', 'it''s sent')",
-     "SELECT sales.id FROM sales WHERE sales.day BETWEEN 8767 AND 8769 AND sales.state NOT IN (1, 3)", []),
+     "SELECT sales.id FROM sales WHERE sales.day BETWEEN '2024-01-02' AND '2024-01-04' AND sales.state NOT IN (1, 3)", []),
     ("SELECT id FROM sales WHERE stamp >= '2024-01-03 00:00:00+00' AND stamp < timestamptz '2024-01-03 00:00+00' + interval '36 hours'",
-     "SELECT sales.id FROM sales WHERE sales.stamp >= 757555200000000 AND sales.stamp < 757684800000000", []),
+     "SELECT sales.id FROM sales WHERE sales.stamp >= '2024-01-03 00:00:00+00'"
+     " AND sales.stamp < '2024-01-04 12:00:00+00'", []),
     ("SELECT id FROM sales WHERE stamp = '2024-01-03 17:00'::date AND day IN ('2024-01-03', '2024-01-04 12:00'::timestamp::date)",
-     "SELECT sales.id FROM sales WHERE sales.stamp = 757555200000000 AND sales.day IN (8768, 8769)", []),
+     "SELECT sales.id FROM sales WHERE sales.stamp = '2024-01-03 00:00:00+00' AND sales.day IN ('2024-01-03', '2024-01-04')", []),
     ("SELECT id FROM buyers WHERE country = 'BXY'::char(2) AND name = ('name 1')::text",
      "SELECT buyers.id FROM buyers WHERE buyers.country = 'BX' AND buyers.name = 'name 1'", []),
     ("SELECT id FROM sales WHERE state = 'paid'::market.state OR (state = $$lost$$ AND NOT day > '2024-01-05')",
-     "SELECT sales.id FROM sales WHERE (sales.state = 2 OR (sales.state = 4 AND NOT (sales.day > 8770)))", []),
+     "SELECT sales.id FROM sales WHERE (sales.state = 2 OR (sales.state = 4 AND NOT (sales.day > '2024-01-05')))", []),
     ("SELECT id FROM sales WHERE state = ANY (ARRAY['new', 'paid']::market.state[]) AND buyer = ANY ('{3,4,5}'::int[]) AND limits <> ALL (ARRAY[1, 2])",
      "SELECT sales.id FROM sales WHERE sales.state IN (1, 2) AND sales.buyer IN (3, 4, 5) AND sales.limits NOT IN (1, 2)", []),
+    ("SELECT id FROM sales WHERE date '2024-01-05' <= day AND day < DATE '2024-01-08' AND stamp < TIMESTAMP WITH TIME ZONE '2024-01-07 06:00:00+02'",
+     "SELECT sales.id FROM sales WHERE sales.day >= '2024-01-05' AND sales.day < '2024-01-08' AND sales.stamp < '2024-01-07 04:00:00+00'", []),
+    ("SELECT id FROM sales WHERE total IN (1, 0.5, '1.250') AND total BETWEEN -3 AND 2.0::numeric(8, 2) AND stamp >= '2024-01-02'",
+     "SELECT sales.id FROM sales WHERE sales.total IN ('1.00', '0.50', '1.25') AND sales.total BETWEEN '-3.00' AND '2.00'"
+     " AND sales.stamp >= '2024-01-02 00:00:00+00'", []),
     (r"SELECT id FROM sales WHERE note = 'x\1' OR note = E'x\\2' OR note IS NULL",
      r"SELECT sales.id FROM sales WHERE (sales.note = 'x\1' OR sales.note = 'x\2' OR sales.note IS NULL)", []),
     ("SELECT id FROM buyers WHERE name LIKE 'name 1%' AND country = 'BX' AND code = 'C4CA4238-A0B9-2382-0DCC-509A6F75849B'",
@@ -115,7 +121,7 @@ QUERIES = [
 # Queries with parameters: how pgplan gets each, and what stands for the parameters.
 PARAMETERS = [
     ("SELECT id FROM sales WHERE buyer = $1 AND day > now() - interval $2 LIMIT $3 OFFSET $4",
-     r"SELECT sales\.id FROM sales WHERE sales\.buyer = \d+ AND sales\.day > \d+ LIMIT 10",
+     r"SELECT sales\.id FROM sales WHERE sales\.buyer = \d+ AND sales\.day > '\d{4}-\d\d-\d\d' LIMIT 10",
      ["$1 = ", "now() - interval $2 = ", "$3 = 10", "$4 = 0"]),
     ("SELECT id FROM sales WHERE state IN ($1, $2, $3)", r"SELECT sales\.id FROM sales WHERE sales\.state IN \(\d, \d, \d\)",
      ["$1 = ", "$2 = ", "$3 = "]),

@@ -10,8 +10,8 @@ difference, and last the number of checks that passed and failed. What is checke
 - shop: twelve tables. Each line that is wanted is printed, nothing else is left out, and pgplan plans queries over them.
 - conditions: how the condition of a partial index is written, or that its index is left out. Each written one is true for the same
   rows in pgplan and on the server.
-- types: dates, times, numerics, enums, UUIDs, fixed-length texts and addresses have the values and the order that pgplan can compare, in
-  statistics and in conditions.
+- types: dates, times, numerics and UUIDs stay what they are, and enums, fixed-length texts and addresses have the values and the order
+  that pgplan can compare, in statistics and in conditions.
 - stand-ins: columns of other types are texts, and `*` names them.
 - collations: which histograms of texts are written, for databases and columns of several collations.
 - encoding: texts are written in the encoding of the database.
@@ -91,10 +91,8 @@ ANALYZE regions; ANALYZE customers; ANALYZE orders; ANALYZE items; ANALYZE price
 
 # Lines that stand in the script, each as a regular expression for the whole line.
 WANTED = [
-    r"CREATE TABLE customers \(id int4 NOT NULL, name text NOT NULL, region int2, since int4, mail text\);",
-    r"-- as days since 2000-01-01: column customers\.since of type date",
-    r"STATISTICS customers\.since DISTINCT 1 NULLS 0 COMMON \(7305 1000000\);",
-    r"-- as text: column customers\.name of type character varying\(80\)",
+    r"CREATE TABLE customers \(id int4 NOT NULL, name varchar\(80\) NOT NULL, region int2, since date, mail text\);",
+    r"STATISTICS customers\.since DISTINCT 1 NULLS 0 COMMON \('2020-01-01' 1000000\);",
     r"-- as a plain index: unique index customers_pkey",
     r"CREATE INDEX customers_pkey ON customers \(id\);",
     r"CREATE INDEX customers_mail_key ON customers \(mail\);",
@@ -106,7 +104,7 @@ WANTED = [
     r"STATISTICS customers\.region DISTINCT 12 NULLS \d+ COMMON \(.*\);",
     r"STATISTICS regions\.name DISTINCT 12 NULLS 0 HISTOGRAM \('region 1', 'region 10', .*\);",
     r"STATISTICS customers\.mail DISTINCT \d+ NULLS 100000 HISTOGRAM \('c[^']*''x@example', .*\);",
-    r"CREATE TABLE orders \(id int8 NOT NULL, customer int4 NOT NULL, status text NOT NULL, paid bool, total int8\);",
+    r"CREATE TABLE orders \(id int8 NOT NULL, customer int4 NOT NULL, status text NOT NULL, paid bool, total numeric\(10,2\)\);",
     r"CREATE INDEX orders_customer ON orders \(customer, id DESC\) INCLUDE \(status\);",
     r"CREATE INDEX orders_open ON orders \(customer\) WHERE \(\(status = 'open'\) AND \(NOT paid\)\);",
     r"CREATE INDEX orders_in ON orders \(customer\) WHERE \(status IN \('open', 'new'\)\);",
@@ -114,7 +112,7 @@ WANTED = [
     r"CREATE INDEX orders_text ON orders \(id\) WHERE \(status = 'x = ANY \(ARRAY\[1\]\)'\);",
     r"CREATE INDEX orders_hash ON orders USING hash \(status\);",
     r"CREATE INDEX orders_total ON orders \(total\);",
-    r"STATISTICS orders\.total DISTINCT 40000 NULLS 0 HISTOGRAM \((\d+00, ){100}\d+00\);",
+    r"STATISTICS orders\.total DISTINCT 40000 NULLS 0 HISTOGRAM \(('\d+\.00', ){100}'\d+\.00'\);",
     r"STATISTICS orders\.status DISTINCT 3 NULLS 0 COMMON \('done' \d+, 'it''s late' \d+, 'open' \d+\);",
     r"STATISTICS orders\.paid DISTINCT 2 NULLS \d+ COMMON \((TRUE|FALSE) \d+, (TRUE|FALSE) \d+\);",
     r"-- left out: extended statistics orders_both on orders",
@@ -125,7 +123,6 @@ WANTED = [
     r"-- left out: index articles_true on articles \(its condition .*\)",
     r"-- left out: 84 further common values of articles\.stock",
     r"STATISTICS articles\.id DISTINCT 900 NULLS 0 HISTOGRAM \((\d+, ){100}900\);",
-    r"-- as multiples of 10\^-2: column orders\.total of type numeric\(10,2\)",
     r"-- as a plain index: exclusion constraint prices_article_valid_from_excl",
     r"CREATE INDEX prices_article_valid_from_excl ON prices \(article, valid_from\);",
     r"-- left out: column staff\.\"order\" of type integer \(its name\)",
@@ -145,7 +142,7 @@ WANTED = [
     r"CREATE TABLE stops \(id int4 NOT NULL, place text, tags text\);",
     r"-- left out: index stops_place on stops \(method gist\)",
     r"-- left out: table \"Odd\" \(its name\)",
-    r"-- as text: column articles\.kind of type character varying",
+    r"CREATE TABLE articles \(id int4 NOT NULL, title text NOT NULL, kind varchar NOT NULL, stock int4, note text\);",
     r"-- left out: table capitals \(no column is left\)",
     r"-- left out: view open_orders",
     r"-- left out: column wide\.c32 of type integer \(more than 32 columns\)",
@@ -209,7 +206,7 @@ CONDITIONS = [
     ("mood IS NOT NULL OR amount IS NULL", "((mood IS NOT NULL) OR (amount IS NULL))"),
     ("pair IS NULL", None),
     ("since < until", "(since < until)"),
-    ("since > '2020-01-01'", "(since > 7305)"),
+    ("since > '2020-01-01'", "(since > '2020-01-01')"),
     ("mood = 'sad'", "(mood = 1)"),
     ("amount > 5", None),
     ("i OPERATOR(conditions.=) 5", None),
@@ -420,8 +417,8 @@ def check_meaning(checks: Checks, psql: Psql) -> None:
     """Each condition that is written, and that a query can have, holds for the same rows in pgplan and on the server."""
     psql("postgres", f"CREATE TABLE conditions.r ({COLUMNS});\nCOPY conditions.r (id, i, s, b, n, v, f, isfinite, lower) FROM STDIN "
                      f"WITH (FORMAT CSV, NULL '\\N');\n{ROWS}\\.\n")
-    copied = ("CREATE TABLE r (id int4, i int4, s int2, b int8, n text, v text, f bool, isfinite bool, lower text, d text, since int4, "
-              "until int4, mood int4, amount text);\nCOPY r FROM STDIN WITH (FORMAT CSV, NULL '\\N');\n"
+    copied = ("CREATE TABLE r (id int4, i int4, s int2, b int8, n text, v text, f bool, isfinite bool, lower text, d text, since date, "
+              "until date, mood int4, amount text);\nCOPY r FROM STDIN WITH (FORMAT CSV, NULL '\\N');\n"
               + "".join(row + r",\N,\N,\N,\N,\N" + "\n" for row in ROWS.splitlines()) + "\\.\n")
     for theirs, ours in CONDITIONS:
         if ours is not None and ours.count(" AND ") < 32:

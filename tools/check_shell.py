@@ -40,11 +40,11 @@ COPY = "COPY t FROM STDIN WITH (FORMAT CSV, NULL '\\N');"
 COMPLETED = {"eve\t": "events", "exp\t": "explain ", "sel\t": "select ", "scr\t": "script"}
 # What is typed, and what has to be answered.
 TYPED = [
-    ("CREATE TABLE events (device int4 NOT NULL, kind text NOT NULL, at int8 NOT NULL);", ""),
+    ("CREATE TABLE events (device int4 NOT NULL, kind text NOT NULL, at timestamp(6) with time zone NOT NULL);", ""),
     ("STATISTICS events ROWS 50000000 PAGES 500000; STATISTICS events.kind DISTINCT 12 NULLS 0", ""),
     ("  COMMON ('tick' 950000, 'alarm' 500);", ""),
     ("\\d", "events  3 columns, 0 indexes, 50000000 rows on 500000 pages\n"),
-    ("\\d eve\t", "events  50000000 rows on 500000 pages\n  device  int4 not null\n  kind    text not null  12 distinct values\n  at      int8 not null\n"),
+    ("\\d eve\t", "events  50000000 rows on 500000 pages\n  device  int4 not null\n  kind    text not null                         12 distinct values\n  at      timestamp(6) with time zone not null\n"),
     ("\\d nix", "There is no table nix.\n"),
     ("\\whatif", "There is no index yet: \\whatif plans the last query without and with the last index.\n"),
     ("exp\tsel\tat from eve\t e where kind = 'alarm' order by at;", PLAN_BEFORE),
@@ -85,7 +85,7 @@ TYPED = [
     ("\\i scr\t", f"{PLAN_BEFORE * 2}Seq Scan on t  (cost=408 rows=2)\n1,it's;\n2,\\N\n(2 rows)\nSeq Scan on t  (cost=412 rows=2)\n1\n(1 row)\n"
      "Seq Scan on t  (cost=408 rows=2)\n1\n2\n(2 rows)\n"),
     ("\\i nix", "nix: No such file or directory\n"),
-    ("\\i script", "script:1:14: error: duplicate name events\nCREATE TABLE events (device int4 NOT NULL, kind text NOT NULL, at int8 NOT NULL);\n             ^~~~~~\n"
+    ("\\i script", "script:1:14: error: duplicate name events\nCREATE TABLE events (device int4 NOT NULL, kind text NOT NULL, at timestamp(6) with time zone NOT NULL);\n             ^~~~~~\n"
      "hint: choose another name: tables and indexes share their names\nNo statement of script is kept.\n"),
     ("\\nix", "\\nix: no such command; \\h lists them\n"),
 ]

@@ -46,26 +46,28 @@ relation AS (
 -- How pgplan has a type: a form, which is one character, its own type, and what a comment says of it.
 form (theirs, form, typ, meaning) AS (
     VALUES ('int2'::regtype, 'i', 'int2', NULL), ('int4', 'i', 'int4', NULL), ('int8', 'i', 'int8', NULL), ('bool', 'b', 'bool', NULL),
-           ('text', 't', 'text', NULL), ('varchar', 't', 'text', 'text'), ('bpchar', 'h', 'text', 'text without trailing blanks'),
-           ('uuid', 'u', 'text', 'text'), ('inet', 'y', 'text', 'text'), ('date', 'd', 'int4', 'days since 2000-01-01'),
-           ('timestamp', 'm', 'int8', 'microseconds since 2000-01-01'), ('timestamptz', 'w', 'int8', 'microseconds since 2000-01-01 UTC'),
-           ('numeric', 's', 'int8', 'multiples of 10^-'), ('anyenum', 'e', 'int4', 'the rank of its label')),
+           ('text', 't', 'text', NULL), ('varchar', 't', 'varchar', NULL), ('bpchar', 'h', 'text', 'text without trailing blanks'),
+           ('uuid', 'u', 'uuid', NULL), ('inet', 'y', 'text', 'text'), ('date', 'd', 'date', NULL), ('timestamp', 'm', 'timestamp', NULL),
+           ('timestamptz', 'w', 'timestamptz', NULL), ('numeric', 's', 'numeric', NULL), ('anyenum', 'e', 'int4', 'the rank of its label')),
 label AS (
     SELECT e.enumtypid AS type, e.enumlabel::text AS label, rank() OVER (PARTITION BY e.enumtypid ORDER BY e.enumsortorder) AS rank
     FROM pg_enum e),
 -- A column whose type pgplan does not have becomes a stand-in: a text column without statistics, so that * names it. So does a numeric
--- without a scale.
+-- without a scale from 0 to 18. One of more than 18 digits keeps the values that pgplan has.
 typed AS (
     SELECT r.oid, r.name AS tab, a.attnum, a.attname::text AS name, a.attnotnull, format_type(a.atttypid, a.atttypmod) AS theirs,
-           coalesce(f.typ, 'text') AS typ, coalesce(f.form, 'x') AS form, f.typ IS NULL AS stand_in, y.typcategory = 'C' AS is_row,
-           a.attcollation, a.atttypid AS type, s.scale, f.meaning,
+           coalesce(f.typ, 'text') || CASE WHEN f.form = 's' THEN '(' || s.digits || ',' || s.scale || ')'
+                                           WHEN f.typ = 'varchar' AND a.atttypmod > 4 THEN '(' || a.atttypmod - 4 || ')' ELSE '' END AS typ,
+           coalesce(f.form, 'x') AS form, f.typ IS NULL AS stand_in, y.typcategory = 'C' AS is_row, a.attcollation, a.atttypid AS type, s.digits, s.scale,
+           CASE WHEN f.form = 's' AND s.digits <> s.precision THEN 'numeric(' || s.digits || ',' || s.scale || ')' ELSE f.meaning END AS meaning,
            CASE f.form WHEN 'h' THEN 'bpchar' ELSE format_type(a.atttypid, NULL) END AS cast_name,
            a.attname ~ '^[a-z_][a-z0-9_$]*$' AND a.attname <> ALL (w.words) AS spelt, coalesce(l.by_bytes, true) AS by_bytes
     FROM relation r JOIN pg_attribute a ON a.attrelid = r.oid JOIN pg_type y ON y.oid = a.atttypid
-    CROSS JOIN LATERAL (SELECT CASE WHEN a.atttypid = 'numeric'::regtype AND a.atttypmod >= 4 THEN (a.atttypmod - 4) & 65535 END AS scale) s
+    CROSS JOIN LATERAL (SELECT (a.atttypmod - 4) >> 16 AS precision, (a.atttypmod - 4) & 65535 AS scale) n
+    CROSS JOIN LATERAL (SELECT n.precision, n.scale, least(18, greatest(n.precision, n.scale)) AS digits) s
     LEFT JOIN collated l ON l.oid = a.attcollation
     LEFT JOIN form f ON f.theirs = CASE y.typtype WHEN 'e' THEN 'anyenum'::regtype ELSE a.atttypid END
-                    AND (f.form <> 's' OR s.scale BETWEEN 0 AND 18), reserved w
+                    AND (f.form <> 's' OR a.atttypmod >= 4 AND s.scale BETWEEN 0 AND 18), reserved w
     WHERE r.kind = 'r' AND r.spelt AND a.attnum > 0 AND NOT a.attisdropped),
 numbered AS (SELECT t.*, row_number() OVER (PARTITION BY t.oid, t.spelt ORDER BY t.stand_in, t.attnum) AS place FROM typed t),
 col AS (SELECT * FROM numbered WHERE spelt AND place <= 32),
@@ -112,22 +114,22 @@ word AS (
     WHERE i.bar IS NULL),
 -- The columns among the words. A literal stands four words before or behind the column that it is compared with, a list two behind it.
 named AS (
-    SELECT w.oid, w.n, c.name, c.is_row, c.scale, c.type, c.cast_name,
+    SELECT w.oid, w.n, c.name, c.is_row, c.digits, c.scale, c.type, c.cast_name,
            CASE WHEN w.word LIKE '(%' AND c.type <> 'varchar'::regtype THEN '?' ELSE c.form END AS form
     FROM word w JOIN col c ON c.oid = w.tab_oid AND NOT w.is_literal
         AND c.name = regexp_replace(w.word, '^\(([a-z_][a-z0-9_$]*)\)::text$', '\1')),
 compared AS (
-    SELECT w.oid, w.n, min(c.form) AS form, min(c.type) AS type, min(c.scale) AS scale, min(c.cast_name) AS cast_name
+    SELECT w.oid, w.n, min(c.form) AS form, min(c.type) AS type, min(c.digits) AS digits, min(c.scale) AS scale, min(c.cast_name) AS cast_name
     FROM word w JOIN named c ON c.oid = w.oid AND (w.is_list AND c.n = w.n - 2 OR w.is_literal AND c.n IN (w.n - 4, w.n + 4)
         AND EXISTS (SELECT FROM word o WHERE o.oid = w.oid AND o.n = (w.n + c.n) / 2 AND o.word ~ '^[<=>]+$'))
     WHERE c.form NOT IN ('i', 't', 'b', 'x', '?') GROUP BY w.oid, w.n HAVING count(*) = 1),
 -- The literals of conditions. Beside a column of a further form a literal fits if it is cast to the column's type, or if it is a number
 -- and the column a numeric; elsewhere it fits without such a cast. Its kind is k beside such a column, else n for a number, q for a text
--- and c for a boolean. Numbers are written without quotes and texts without casts.
+-- and c for a boolean. Casts are not written, and quotes are not written about integers.
 value AS (
-    SELECT w.oid, w.n, v.place, v.of[1] AS literal, c.form, c.type, c.scale,
+    SELECT w.oid, w.n, v.place, v.of[1] AS literal, c.form, c.type, c.digits, c.scale,
            replace(substring(v.of[1] FROM $$^\(?'((?:[^']|'')*)'$$), '''''', '''') AS quoted,
-           substring(v.of[1] FROM $$^\(?([0-9]+(?:\.[0-9]+)?)$$) AS digits,
+           substring(v.of[1] FROM $$^\(?([0-9]+(?:\.[0-9]+)?)$$) AS number,
            CASE WHEN c.form IS NULL THEN v.of[1] ~ ($$^(?:true|false|[0-9]+|\([0-9]+\)::(?:bigint|smallint)|\(?'(?:[^']|'')*'$$
                     || $$::(?:text|character varying|bigint|integer|smallint)(?:\)::text)?)$$ || '$')
                 WHEN c.form = 's' THEN v.of[1] ~ '^[0-9.]+$|::numeric$'
@@ -139,7 +141,7 @@ value AS (
     WHERE w.is_list OR w.is_literal),
 -- What the last ANALYZE found of a column.
 found AS (
-    SELECT col.oid, col.tab, col.attnum, col.name, col.typ, col.form, col.type, col.scale, col.by_bytes, s.null_frac,
+    SELECT col.oid, col.tab, col.attnum, col.name, col.form, col.type, col.digits, col.scale, col.by_bytes, s.null_frac,
            s.most_common_vals::text::text[] AS vals,
            s.most_common_freqs AS freqs, s.histogram_bounds::text::text[] AS bounds, floor(s.null_frac * 1000000)::int8 AS nulls,
            least(1e9, greatest(1, round(CASE WHEN s.n_distinct < 0 THEN -s.n_distinct * greatest(1, t.tuples) ELSE s.n_distinct END::numeric)))::int8 AS d
@@ -149,32 +151,30 @@ found AS (
 -- Values as the server prints them: of conditions, common ones and bounds of histograms. What they belong to has two numbers.
 printed AS (
     SELECT 'condition' AS role, v.oid, v.n AS part, v.place,
-           CASE v.kind WHEN 'k' THEN v.form WHEN 'n' THEN 'i' WHEN 'c' THEN 'b' ELSE 't' END AS form, v.type, v.scale, coalesce(v.quoted, v.digits, left(v.literal, 1)) AS value, NULL::real AS freq
+           CASE v.kind WHEN 'k' THEN v.form WHEN 'n' THEN 'i' WHEN 'c' THEN 'b' ELSE 't' END AS form, v.type, v.digits, v.scale,
+           coalesce(v.quoted, v.number, left(v.literal, 1)) AS value, NULL::real AS freq
     FROM value v WHERE v.fits
     UNION ALL
-    SELECT 'common', f.oid, f.attnum, v.n, f.form, f.type, f.scale, v.value, v.freq
+    SELECT 'common', f.oid, f.attnum, v.n, f.form, f.type, f.digits, f.scale, v.value, v.freq
     FROM found f, unnest(f.vals, f.freqs) WITH ORDINALITY AS v(value, freq, n)
     UNION ALL
-    SELECT 'bound', f.oid, f.attnum, b.n, f.form, f.type, f.scale, b.value, NULL FROM found f, unnest(f.bounds) WITH ORDINALITY AS b(value, n)),
--- The same as pgplan has them: bare, without quotes, or NULL where pgplan has no such value.
+    SELECT 'bound', f.oid, f.attnum, b.n, f.form, f.type, f.digits, f.scale, b.value, NULL FROM found f, unnest(f.bounds) WITH ORDINALITY AS b(value, n)),
+-- The same as pgplan has them: bare, without quotes, or NULL where pgplan has no such value. Days and times have years from 1 to 9999.
 bare AS (
     SELECT p.*, CASE p.form
         WHEN 'b' THEN CASE p.value WHEN 't' THEN 'TRUE' ELSE 'FALSE' END
-        WHEN 'd' THEN CASE WHEN isfinite(p.value::date) THEN (p.value::date - date '2000-01-01')::text END
-        WHEN 'm' THEN CASE WHEN isfinite(p.value::timestamp)
-            THEN round(extract(epoch FROM p.value::timestamp - timestamp '2000-01-01')::numeric * 1000000)::text END
-        WHEN 'w' THEN CASE WHEN isfinite(p.value::timestamptz)
-            THEN round(extract(epoch FROM p.value::timestamptz - timestamptz '2000-01-01 00:00:00+00')::numeric * 1000000)::text END
-        WHEN 's' THEN CASE WHEN abs(p.value::numeric) < 9e18 / power(10::numeric, p.scale)
-                                AND p.value::numeric * power(10::numeric, p.scale) = trunc(p.value::numeric * power(10::numeric, p.scale))
-            THEN trunc(p.value::numeric * power(10::numeric, p.scale))::text END
+        WHEN 'd' THEN substring(p.value FROM '^[0-9]{4}-[0-9]{2}-[0-9]{2}$')
+        WHEN 'm' THEN substring(p.value FROM '^[0-9]{4}-[0-9]{2}-[0-9]{2} [0-9:.]+$')
+        WHEN 'w' THEN substring(p.value FROM '^[0-9]{4}-[0-9]{2}-[0-9]{2} [0-9:.]+\+00$')
+        WHEN 's' THEN CASE WHEN abs(p.value::numeric) < power(10::numeric, p.digits - p.scale) AND p.value::numeric = trunc(p.value::numeric, p.scale)
+            THEN trunc(p.value::numeric, p.scale)::text END
         WHEN 'e' THEN (SELECT l.rank::text FROM label l WHERE l.type = p.type AND l.label = p.value)
         WHEN 'h' THEN rtrim(p.value, ' ')
         WHEN 'u' THEN lower(p.value)
         ELSE p.value END AS bare
     FROM printed p),
 written_value AS (
-    SELECT b.*, CASE WHEN b.form NOT IN ('t', 'h', 'u', 'y') THEN b.bare WHEN octet_length(b.bare) <= 8192 THEN '''' || replace(b.bare, '''', '''''') || ''''
+    SELECT b.*, CASE WHEN b.form IN ('i', 'b', 'e') THEN b.bare WHEN octet_length(b.bare) <= 8192 THEN '''' || replace(b.bare, '''', '''''') || ''''
         END AS text
     FROM bare b),
 listed AS (
@@ -232,10 +232,10 @@ common AS (
 -- A histogram is written if pgplan has each bound and sorts them in the same way.
 histogram AS (
     SELECT f.oid, f.attnum, count(*) AS count, count(v.text) = count(*) AS is_whole,
-           f.form <> 'y' AND (f.typ <> 'text' OR f.by_bytes AND
+           f.form <> 'y' AND (f.form NOT IN ('t', 'h') OR f.by_bytes AND
                array_agg(v.bare ORDER BY v.place) = array_agg(v.bare ORDER BY v.bare COLLATE "C")) AS in_order
     FROM found f JOIN written_value v ON v.role = 'bound' AND v.oid = f.oid AND v.part = f.attnum
-    GROUP BY f.oid, f.attnum, f.form, f.typ, f.by_bytes),
+    GROUP BY f.oid, f.attnum, f.form, f.by_bytes),
 bound AS (
     SELECT h.oid, h.attnum, v.text, v.place
     FROM histogram h JOIN written_value v ON v.role = 'bound' AND v.oid = h.oid AND v.part = h.attnum
@@ -254,7 +254,7 @@ line AS (
     SELECT '', 0, '', 2, '-- There is no such schema.' WHERE NOT EXISTS (SELECT FROM pg_namespace WHERE nspname = :'schema')
     UNION ALL
     SELECT '', 0, '', 1, '-- Texts compare byte by byte in pgplan, also where their collation here says otherwise.'
-    WHERE EXISTS (SELECT FROM col WHERE typ = 'text' AND NOT stand_in AND NOT by_bytes)
+    WHERE EXISTS (SELECT FROM col WHERE form IN ('t', 'h') AND NOT by_bytes)
     UNION ALL
     SELECT r.name, 1, '', 0, '-- left out: ' || CASE r.kind WHEN 'p' THEN 'partitioned table ' WHEN 'v' THEN 'view ' WHEN 'm' THEN 'materialized view '
         WHEN 'f' THEN 'foreign table ' ELSE 'table ' END || quote_ident(r.name)
@@ -266,8 +266,7 @@ line AS (
         || CASE WHEN NOT c.spelt THEN ' (its name)' ELSE ' (more than 32 columns)' END
     FROM kept_tab t JOIN numbered c ON c.oid = t.oid WHERE NOT c.spelt OR c.place > 32
     UNION ALL
-    SELECT t.name, 3, '', c.attnum, CASE WHEN c.stand_in THEN '-- as text, without statistics: column ' ELSE '-- as ' || c.meaning || coalesce(c.scale::text, '')
-        || ': column ' END || t.name || '.' || c.name || ' of type ' || c.theirs
+    SELECT t.name, 3, '', c.attnum, CASE WHEN c.stand_in THEN '-- as text, without statistics: column ' ELSE '-- as ' || c.meaning || ': column ' END || t.name || '.' || c.name || ' of type ' || c.theirs
     FROM kept_tab t JOIN col c ON c.oid = t.oid WHERE c.meaning IS NOT NULL OR c.stand_in
     UNION ALL
     SELECT t.name, 4, '', 0, 'CREATE TABLE ' || t.name || ' ('

@@ -14,6 +14,7 @@ import subprocess
 import sys
 
 sys.dont_write_bytecode = True
+from random_scripts import typed
 from random_scripts.definitions import column_statistics, create, create_index, sizes
 from random_scripts.parts import Table, spaced
 from random_scripts.queries import grouped_select, is_large, plain_select
@@ -21,12 +22,15 @@ from random_scripts.queries import grouped_select, is_large, plain_select
 
 def table_of(rng, name):
     names = ["a", "b", "c", "d"][:rng.choice([1, 2, 3, 4])]
-    return Table(name, [(n, rng.choice(["int2", "int4", "int8", "int4", "text", "bool"]), rng.random() < 0.2) for n in names])
+    kinds = ["int2", "int4", "int8", "int4", "text", "bool", *typed.KINDS] if rng.random() < 0.5 else ["int4", "date", "numeric(10,2)", "uuid"]
+    return Table(name, [(n, rng.choice(kinds), rng.random() < 0.2) for n in names])
 
 
 def value(rng, kind, not_null):
     if not not_null and rng.random() < 0.15:
         return "\\N"
+    if kind in typed.KINDS:
+        return typed.right(rng, kind)
     if kind == "bool":
         return rng.choice("tf")
     return str(rng.choice(["x", "ab", "Ann", "z"])) if kind == "text" else str(rng.choice([-1, 0, 1, 2, 3, 7, rng.randrange(100)]))
@@ -66,11 +70,11 @@ def script(rng):
 
 
 def mine_of(program, head, queries):
-    """The rows of each query by pgplan, None where it has no admissible plan."""
+    """The rows of each query by pgplan, None where it has no admissible plan or is past a limit."""
     found = []
     for query in queries:
         ran = subprocess.run([program, "run"], input=(head + query + ";\n").encode(), capture_output=True)
-        if ran.stderr.startswith(b"ERROR 54001"):
+        if ran.stderr.startswith((b"ERROR 54001", b"ERROR 54000")):
             found.append(None)
             continue
         assert ran.returncode == 0, (ran.stderr, query)
@@ -82,7 +86,7 @@ def mine_of(program, head, queries):
 
 def theirs_of(head, queries):
     """The rows of each query by the server."""
-    text = head
+    text = "SET datestyle = ISO; SET timezone = UTC;\n" + head
     for number, query in enumerate(queries):
         text += f"COPY ({query}) TO STDOUT WITH (FORMAT CSV, NULL '\\N');\n\\echo == {number}\n"
     ran = subprocess.run(["psql", "-X", "-q", "-v", "ON_ERROR_STOP=1", "postgres"], input=text, capture_output=True, text=True)

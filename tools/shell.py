@@ -29,11 +29,11 @@ except ImportError:
 HISTORY = os.path.expanduser("~/.pgplan_history")
 PROMPT, GOES_ON, DATA = "pgplan> ", "   ...> ", " lines> "
 GREETING = "End statements with ;  \\h shows help, \\q quits."
-KEYWORDS = """advise analyze and as asc between bool btree by check copy count create cross csv desc distinct explain false first format from
-group hash histogram common in include index inner int2 int4 int8 is join last limit max min not null nulls offset on or order pages plan rows
-select statistics stdin table text true use using where with""".split()
+KEYWORDS = """advise analyze and as asc between bool btree by check copy count create cross csv date desc distinct explain false first format
+from group hash histogram common in include index inner int2 int4 int8 is join last limit max min not null nulls numeric offset on or order pages
+plan rows select statistics stdin table text timestamp timestamptz true use using uuid varchar where with""".split()
 STATEMENTS = r"""
-CREATE TABLE t (a int4 NOT NULL, b text)          int2, int4, int8, text, bool
+CREATE TABLE t (a int4 NOT NULL, b text)          int2, int4, int8, numeric(10, 2), text, bool, uuid, date, timestamp, timestamptz
 CREATE INDEX t_a ON t (a) [INCLUDE (b)] [WHERE ..]
 STATISTICS t ROWS 1000000 PAGES 10000             sizes without data
 STATISTICS t.a DISTINCT 5000 NULLS 0 [COMMON (value share, ..)] [HISTOGRAM (value, ..)]
@@ -74,12 +74,13 @@ def ended(text: bytes) -> bytes:
 
 def columns_of(said: list[str]) -> list[tuple[str, str]]:
     """Names and types of the columns in the words behind the `(` of CREATE TABLE."""
-    columns, column = [], []
+    columns, column, depth = [], [], 0
     for word in said:
-        if word in (",", ")"):
-            columns.append((column[0], " ".join(column[1:])))
+        if word in (",", ")") and not depth:
+            columns.append((column[0], re.sub(r" ([(),])", r"\1", " ".join(column[1:])).replace("( ", "(")))
             column = []
         elif word != ";":
+            depth += (word == "(") - (word == ")")
             column.append(word)
     return columns
 

@@ -5,8 +5,9 @@ from __future__ import annotations
 from random import Random
 from typing import Sequence
 
+from . import typed
 from .parts import (CLASSES, LIMITS, TYPES, ColumnDef, Scope, Table, Words, cased, condition, in_any_case, listed, literal_text, new_name,
-                    spaced)
+                    number_words, some_kind, spaced)
 
 
 def new_table(rng: Random, taken: Sequence[str]) -> Table:
@@ -14,7 +15,7 @@ def new_table(rng: Random, taken: Sequence[str]) -> Table:
     names: list[str] = []
     for _ in range(rng.choice([1, 1, 2, 3, 4, 16])):
         names.append(new_name(rng, names))
-    columns: list[ColumnDef] = [(name, rng.choice(list(TYPES)), rng.random() < 0.2) for name in names]
+    columns: list[ColumnDef] = [(name, some_kind(rng), rng.random() < 0.2) for name in names]
     return Table(new_name(rng, taken), columns)
 
 
@@ -23,7 +24,7 @@ def create(rng: Random, table: Table) -> Words:
     columns = []
     for name, kind, not_null in table.columns:
         null = cased(rng, "not null") if not_null else cased(rng, "null") if rng.random() < 0.2 else []
-        columns.append([in_any_case(rng, name), in_any_case(rng, rng.choice(TYPES[kind])), *null])
+        columns.append([in_any_case(rng, name), *cased(rng, rng.choice(TYPES[kind])), *null])
     return [*cased(rng, "create table"), in_any_case(rng, table.name), "(", *listed(columns), ")"]
 
 
@@ -102,9 +103,12 @@ def values_of(rng: Random, kind: str, count: int) -> list[Words]:
     if kind == "text":
         texts = {rng.choice(["", "a", "b", "ab", "it's", "z"]) + str(rng.randrange(500)) for _ in range(count)}
         return [[literal_text(t)] for t in sorted(texts, key=lambda t: t.encode())]
+    if kind in typed.KINDS:
+        return [[literal_text(t)] for t in typed.rising(rng, kind, count)] if kind not in typed.NUMERICS or rng.random() < 0.7 else (
+            [number_words(n) for n in sorted({typed.whole(rng, kind) for _ in range(count)})])
     limit = LIMITS[kind]
     numbers = {rng.randrange(-limit, limit) if rng.random() < 0.5 else rng.randrange(-50, 1000) for _ in range(count)}
-    return [[literal_text(str(n))] if rng.random() < 0.2 else ["-", str(-n)] if n < 0 else [str(n)] for n in sorted(numbers)]
+    return [[literal_text(str(n))] if rng.random() < 0.2 else number_words(n) for n in sorted(numbers)]
 
 
 def column_statistics(rng: Random, table: Table) -> Words:

@@ -5,31 +5,59 @@ All conditions here are texts.
 
 from __future__ import annotations
 
+from datetime import date, timedelta
+from decimal import Decimal
 from random import Random
 from typing import Sequence
 
-COLUMNS = [("a", "int4"), ("b", "int8"), ("c", "int4"), ("s", "text"), ("f", "bool"), ("d", "int2")]
+COLUMNS = [("a", "int4"), ("b", "int8"), ("c", "int4"), ("s", "text"), ("f", "bool"), ("d", "int2"), ("e", "date"), ("m", "numeric(6,2)"),
+           ("w", "timestamptz"), ("u", "uuid")]
 PLAIN = ["<", "<=", "=", ">=", ">", "<>"]
 BY_SIZE = ["|<|", "|<=|", "|=|", "|>=|", "|>|"]
-KINDS = {"int2": "int", "int4": "int", "int8": "int", "text": "text", "bool": "bool"}
+KINDS = {"int2": "int", "int4": "int", "int8": "int", "numeric(6,2)": "numeric"}
 # Columns by their numbers.
 Columns = Sequence[int]
 # How literals of a kind are sorted.
-ORDERS = {"int": int, "text": str, "bool": lambda value: value == "TRUE"}
-INTS = [n for n, (_, typed) in enumerate(COLUMNS) if KINDS[typed] == "int"]
+ORDERS = {"int": int, "numeric": lambda value: Decimal(value.strip("'"))}
+INTS = [n for n, (_, typed) in enumerate(COLUMNS) if KINDS.get(typed) == "int"]
 ALL = range(len(COLUMNS))
+FIRST_DAY = date(2024, 2, 27)
 
 
 def kind_of(column: int) -> str:
     """The kind of a column."""
-    return KINDS[COLUMNS[column][1]]
+    typed = COLUMNS[column][1]
+    return KINDS.get(typed, typed)
+
+
+def in_order(values: list[str], kind: str) -> list[str]:
+    """Literals of a kind in rising order. But for numbers their texts are in the order of their values."""
+    return sorted(values, key=ORDERS.get(kind, str))
+
+
+def value(rng: Random, kind: str, limit: int) -> str:
+    """One of about so many values of a kind, as its own text: no other text here spells it."""
+    number = rng.randrange(-limit, limit)
+    if kind == "bool":
+        return rng.choice("tf")
+    if kind == "text":
+        return rng.choice("abcdef") if limit < 99 else f"k{abs(number)}"
+    if kind == "uuid":
+        return f"00000000-0000-4000-8000-{abs(number):012x}"
+    if kind == "numeric":
+        return f"{'-' * (number < 0)}{abs(number) // 4}.{abs(number) % 4 * 25:02}"
+    day = (FIRST_DAY + timedelta(days=number)).isoformat()
+    return str(number) if kind == "int" else day if kind == "date" else f"{day} 12:30:00.5+00"
 
 
 def literal(rng: Random, kind: str) -> str:
     """A literal of few values."""
     if kind == "int":
         return str(rng.choice([rng.randint(-3, 3), rng.randint(-3, 12), rng.randint(-300, 300)]))
-    return "'%s'" % rng.choice("abcdef") if kind == "text" else rng.choice(["TRUE", "FALSE"])
+    if kind == "bool":
+        return rng.choice(["TRUE", "FALSE"])
+    text = value(rng, kind, rng.choice([2, 4, 20]))
+    return text[:-3] if kind == "numeric" and text.endswith(".00") else f"'{text}'"
 
 
 def name(rng: Random, column: int, aliases: Sequence[str]) -> str:
@@ -52,7 +80,7 @@ def comparison(rng: Random, columns: Columns, aliases: Sequence[str]) -> str:
 
 def both_ends(rng: Random, own: str, kind: str) -> str:
     """Bounds of a column from both sides, in any order, with a value between them or with one at both ends."""
-    low, high = sorted((literal(rng, kind) for _ in range(2)), key=ORDERS[kind])
+    low, high = in_order([literal(rng, kind) for _ in range(2)], kind)
     bounds = [f"{own} {rng.choice(['>', '>='])} {low}", f"{own} {rng.choice(['<', '<='])} {high}"]
     return f"({' AND '.join(rng.sample(bounds, 2))})"
 
@@ -125,7 +153,7 @@ def statistics(rng: Random, t: str, column: int) -> str:
     distinct = max(1, len(common), rng.choice([1, 2, 100, rng.randint(1, 10 ** rng.randint(1, 9)), 10**9]))
     text = f"STATISTICS {t}.{own} DISTINCT {distinct} NULLS {nulls}" + (f" COMMON ({', '.join(common)})" if common else "")
     if rng.random() < 0.6:
-        bounds = sorted((literal(rng, kind) for _ in range(rng.choice([2, 3, 6, 20]))), key=ORDERS[kind])
+        bounds = in_order([literal(rng, kind) for _ in range(rng.choice([2, 3, 6, 20]))], kind)
         text += f" HISTOGRAM ({', '.join(bounds)})"
     return text + ";"
 
@@ -139,14 +167,14 @@ def sizes(rng: Random, t: str) -> str:
 
 def data(rng: Random, t: str, columns: Columns, not_null: bool, count: int) -> str:
     """COPY of so many records."""
-    def value(column: int) -> str:
+    def field(column: int) -> str:
         """A field."""
         if not not_null and rng.random() < 0.15:
             return "\\N"
         kind = kind_of(column)
-        return str(rng.randint(-3, 5)) if kind == "int" else rng.choice("abcd") if kind == "text" else rng.choice("tf")
+        return str(rng.randint(-3, 5)) if kind == "int" else rng.choice("abcd") if kind == "text" else value(rng, kind, 4)
 
-    records = "".join(",".join(value(c) for c in columns) + "\n" for _ in range(count))
+    records = "".join(",".join(field(c) for c in columns) + "\n" for _ in range(count))
     return f"COPY {t} FROM STDIN WITH (FORMAT CSV, NULL '\\N');\n{records}\\."
 
 

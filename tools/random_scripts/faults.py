@@ -5,8 +5,9 @@ from __future__ import annotations
 from random import Random
 from typing import Callable, Sequence
 
+from . import typed
 from .definitions import copy, create, values_of
-from .parts import CLASSES, LIMITS, NO_NUMBERS, NO_TRUTHS, Scope, Table, condition, field, record, spaced
+from .parts import CLASSES, LIMITS, NO_NUMBERS, NO_TRUTHS, Scope, Table, condition, field, literal_text, record, spaced
 from .queries import from_item, from_list, relations_of
 
 PAST = [2**63, 2**64, 10**30]
@@ -14,7 +15,9 @@ PAST = [2**63, 2**64, 10**30]
 
 def literal_of(kind: str) -> str:
     """A literal for a column of this type."""
-    return {"text": "'x'", "bool": "TRUE"}.get(kind, "1")
+    if kind in typed.TIMES:
+        return "'2024-02-29'"
+    return {"text": "'x'", "bool": "TRUE", "uuid": f"'{typed.UUIDS[0]}'", "numeric(3,3)": "'0.5'"}.get(kind, "1")
 
 
 # -- tables and data
@@ -26,7 +29,7 @@ def broken_table(rng: Random, tables: Sequence[Table]) -> str:
     many = ", ".join(f"c{n} int4" for n in range(rng.choice([33, 40])))
     return rng.choice([
         spaced(rng, create(rng, table)) + ";", spaced(rng, create(rng, Table("fresh", [*table.columns[:3], (name, "int4", False)]))) + ";",
-        "CREATE TABLE fresh (a int4, b %s, c money);" % rng.choice(["int9", "varchar", "float8"]), f"CREATE TABLE fresh ({many});",
+        "CREATE TABLE fresh (a int4, b %s, c money);" % rng.choice(["int9", "varchar", "float8", "numeric"]), f"CREATE TABLE fresh ({many});",
         "".join(f"CREATE TABLE many{n} (a int4);\n" for n in range(65)), f"SELECT * FROM {rng.choice(['missing', 'nowhere n'])};",
         f"SELECT {name}, Missing FROM {table.name};", f"SELECT {table.name}.{name} FROM {table.name} other;",
         f"SELECT other.{name}, other.nothing FROM {table.name} AS other;", f"SELECT missing.* FROM {table.name};",
@@ -35,6 +38,22 @@ def broken_table(rng: Random, tables: Sequence[Table]) -> str:
         "#;", f"SELECT * FROM {table.name} x y;", f"SELECT FROM {table.name};", f"SELECT *, FROM {table.name};", f"SELECT a b FROM {table.name};",
         f"SELECT * FROM {table.name}, {table.name};", "ANALYZE missing;", "ANALYZE;", f"ANALYZE {table.name}.{name};", f"ANALYZE {table.name} ({name});",
         f"EXPLAIN ANALYZE {table.name};", f"analyze {table.name}, {table.name};"])
+
+
+def broken_type(rng: Random, tables: Sequence[Table]) -> str:
+    """CREATE TABLE with a type or a modifier in error, alone or before or behind another fault."""
+    past = rng.choice(["10485761", "0", "19", "4294967297", "9" * 25])
+    types = rng.sample([
+        f"varchar({past})", "varchar(1, 2)", "varchar()", "varchar('3')", "varchar(-3)", "varchar(3", "varchar varying", "character", "character(3)",
+        "char(3)", f"character varying({past})", "varying", "bpchar", "date(6)", "int4(4)", "text(9)", "bool(1)", "uuid(16)", "timestamp(3)",
+        f"timestamp({past})", "timestamp(6, 6)", "timestamptz(7)", "timestamp(0) with time zone", "timestamp with zone", "timestamp with time",
+        "timestamp time zone", "timestamptz with time zone", "timestamp with time zone (6)", "timestamp without time", "date without time zone",
+        "timestamp(6) with", "time", "time with time zone", "interval", "numeric", "decimal NOT NULL", f"numeric({past})", "numeric(0, 1)",
+        "numeric(19, 2)", "numeric(5, 6)", "decimal(5, 2, 1)", "numeric(10, -2)", "numeric(10.2)", "numeric(6 2)", "double precision", "money(10, 2)",
+        "uuid uuid", "date NOT", "dates", "decimal(18, 18)", "timestamp(6)", "character varying(7)", "varchar", "numeric(018, 0)"], rng.choice([1, 1, 2, 3]))
+    name = rng.choice(["fresh", "fresh", rng.choice(tables).name])
+    columns = [f"{rng.choice('aabcde')}{n} {written}" for n, written in enumerate(types)]
+    return f"CREATE TABLE {name} ({', '.join(columns)}{rng.choice(['', '', ', a0 int4'])});"
 
 
 def records_at_fault(rng: Random, table: Table) -> list[str]:
@@ -47,6 +66,8 @@ def records_at_fault(rng: Random, table: Table) -> list[str]:
         fields = fields[:-1] if len(fields) > 1 and rng.random() < 0.5 else [*fields, "1"]
     elif choice == 1 and kind in LIMITS:
         fields[number] = str(rng.choice([LIMITS[kind], -LIMITS[kind] - 1, 10**30]))
+    elif choice < 3 and kind in typed.KINDS:
+        fields[number] = f'"{typed.wrong(rng, kind)}"'
     elif choice == 2 and kind != "text":
         fields[number] = rng.choice(NO_TRUTHS if kind == "bool" else NO_NUMBERS) or '""'
     elif choice == 3 and not_null:
@@ -85,11 +106,26 @@ def broken_condition(rng: Random, tables: Sequence[Table]) -> str:
         " OR ".join([test, "TRUE"] * 129), f"{name} |<| 'x'", f"{name} |=| TRUE", f"{name} = 9223372036854775808", f"{name} = -9223372036854775809",
         f"{name} < 'x y'", f"{name} > '{'9' * 30}'", "missing = 1", f"other.{name} = {whole}", f"{name} = {name} AND missing", f"{name}", f"NOT {name}",
         f"{name} = ", f"{name} IS 1", f"({test}", f"{test})", f"{name} = {whole} {name}", "1 = 'x'", "1 = TRUE", "TRUE = 'maybe'",
-        f"{name} < '{'a' * 8193}'", f"{name} = {whole} AND", "NULL = NULL OR 'a' |<| 'b'", f"{name} == {whole}", f"{name} = '\\N'", "'1' = '2' AND 1 |>| 'z'"]
+        f"{name} < '{'a' * 8193}'", f"{name} = {whole} AND", typed_fault(rng, name, kind), typed_fault(rng, name, kind), "NULL = NULL OR 'a' |<| 'b'", f"{name} == {whole}", f"{name} = '\\N'", "'1' = '2' AND 1 |>| 'z'"]
     tests = [" ".join(condition(rng, Scope([(table.name, table)]), 1)) for _ in range(rng.choice([0, 0, 1, 2]))]
     tests.insert(rng.randint(0, len(tests)), rng.choice(parts))
     shown = rng.choice(["*", name, "missing"] if rng.random() < 0.2 else ["*", name])
     return f"SELECT {shown} FROM {table.name} WHERE {' AND '.join(tests)};"
+
+
+def typed_fault(rng: Random, name: str, kind: str) -> str:
+    """A condition whose typed literal, text, number or operator does not fit a column, or one of two literals."""
+    of = rng.choice([kind, rng.choice(typed.KINDS)]) if kind in typed.KINDS else rng.choice(typed.KINDS)
+    bad, good = literal_text(typed.wrong(rng, of)), literal_text(typed.right(rng, of))
+    word = rng.choice(["date", "timestamp", "timestamptz", "uuid", "varchar", "int4", "numeric", "decimal", "interval", "zz", "char", "timestamp with time zone"])
+    op = rng.choice(["=", "<", "<>", "|=|"])
+    return rng.choice([
+        f"{name} {op} {bad}", f"{name} {op} {good}", f"{bad} {op} {name}", f"{name} {op} {word} {bad}", f"{name} {op} {word} {good}", f"{word} {good} {op} {name}",
+        f"{word} {good} {op} {word} {bad}", f"{word} {bad} {op} {rng.choice([good, bad, '5', 'NULL', 'TRUE'])}", f"{good} {op} {word} {good}",
+        f"{word} {good}", f"{word} {good} IS NULL", f"{word} {bad} = zz", f"{name} {op} {word} 5", f"{word} = {good}", f"{name} BETWEEN {word} {good} AND {bad}",
+        f"{word} {good} NOT BETWEEN {name} AND {word} {good}", f"{name} IN ({good}, {bad})", f"{name} IN ({word} {good})", f"t.{word} {good} = {name}",
+        f"{name} {op} {rng.choice([10**8, 10**18, 10**30, 5, 12345])}", f"{rng.choice([99999, 10**17])} {op} {name}", f"{name} {op} 1.5", f"{name} {op} -{10**9}",
+        f"{word} {good} {good} = {name}", f"NOT {word} {good} = {word}"])
 
 
 def broken_membership(rng: Random, tables: Sequence[Table]) -> str:
@@ -97,7 +133,7 @@ def broken_membership(rng: Random, tables: Sequence[Table]) -> str:
     table = rng.choice(tables)
     name, kind, _ = rng.choice(table.columns)
     whole = literal_of(kind)
-    other = {"text": "2", "bool": "2"}.get(kind, "TRUE")
+    other = "TRUE" if kind in LIMITS or kind in typed.NUMERICS else "2"
     ones = lambda count: ", ".join([whole] * count)
     return f"SELECT * FROM {table.name} WHERE " + rng.choice([
         f"{name} IN ()", f"{name} IN ({whole},)", f"{name} IN ({name})", f"{name} IN {whole}", f"{name} IN (SELECT {name} FROM {table.name})",
@@ -117,7 +153,8 @@ def broken_statistics(rng: Random, tables: Sequence[Table]) -> str:
     name, kind, _ = rng.choice(table.columns)
     past = rng.choice([0, 10**9 + 1, 2**64, 10**30])
     values = [" ".join(v) for v in values_of(rng, kind, 30)]
-    bad = rng.choice(["NULL", "'x y'", "TRUE", "1", "-1", "9" * 25, "'" + "9" * 25 + "'", "'a'"])
+    bad = rng.choice(["NULL", "'x y'", "TRUE", "1", "-1", "9" * 25, "'" + "9" * 25 + "'", "'a'", "date '2024-02-29'",
+                      literal_text(typed.wrong(rng, kind if kind in typed.KINDS else "date"))])
     common = [f"{v} {rng.choice([1, 1000])}" for v in values[:rng.choice([1, 3, 17, 30])]]
     common.insert(rng.randint(0, len(common)), f"{rng.choice([bad, values[0]])} {rng.choice([0, 10**6, 10**6 + 1, 2**32 + 1, 5])}")
     bounds = values[:rng.choice([1, 2, 5, 30])]
@@ -143,7 +180,7 @@ def broken_index(rng: Random, tables: Sequence[Table]) -> str:
     table = rng.choice(tables)
     names = [name for name, _, _ in table.columns]
     name, kind, _ = rng.choice(table.columns)
-    wrong = rng.choice([c for k in CLASSES for c in CLASSES[k]] + ["nope", "btree", "nulls"])
+    wrong = rng.choice([c for k in CLASSES for c in CLASSES[k]] + ["nope", "btree", "nulls", "numeric_abs_ops", "datetime_ops", "varchar_ops"])
     on, many = f"ON {table.name}", ", ".join((names * 33)[:33])
     tail = rng.choice(["", " WHERE missing = 1", f" WHERE {name} = 'x y'", f" WHERE {name}", " WHERE"])
     return rng.choice([
@@ -227,7 +264,7 @@ def broken_groups(rng: Random, tables: Sequence[Table]) -> str:
         f"SELECT {a}.{x}, count(*) FROM {one};", f"SELECT * FROM {one}, {two} GROUP BY {a}.{x};", f"SELECT {b}.*, count(*) FROM {one}, {two} GROUP BY {a}.{x};",
         f"SELECT {a}.{x} FROM {one}, {two} GROUP BY {a}.{x} ORDER BY {b}.{y};", f"SELECT {b}.{y}, {a}.{x} FROM {one}, {two} WHERE {many} GROUP BY {a}.{x};",
         f"SELECT {a}.{x} FROM {one} WHERE {many} GROUP BY {a}.{x};", f"SELECT {wrong}({a}.{x}) FROM {one};", f"SELECT {wrong}(missing) FROM {one};",
-        f"SELECT {rng.choice(['min', 'Max', wrong])}(*) FROM {one};", f"SELECT min({a}.{x}), {a}.missing FROM {one} GROUP BY nothing;",
+        f"SELECT {rng.choice(['min', 'Max', wrong])}(*) FROM {one};", f"SELECT count({a}.{x}), {rng.choice(['min', 'max'])}({a}.{x}) FROM {one};", f"SELECT min({a}.{x}), {a}.missing FROM {one} GROUP BY nothing;",
         f"SELECT {a}.{x} FROM {one} GROUP BY {a}.{x}, missing ORDER BY nothing;", f"SELECT {a}.{x} FROM {one} GROUP BY other.{x};",
         f"SELECT count(*) FROM {one} GROUP BY {a}.{x} LIMIT 1;", f"SELECT count(*) FROM {one} OFFSET 1;",
         f"SELECT {x} FROM {one} GROUP BY {x} HAVING count(*) > 1;", f"SELECT count(DISTINCT {x}) FROM {one};", f"SELECT count() FROM {one};",
@@ -283,7 +320,7 @@ def broken_lines(rng: Random, tables: Sequence[Table]) -> str:
 
 
 KINDS: list[Callable[[Random, Sequence[Table]], str]] = [
-    broken_table, broken_copy, broken_condition, broken_membership, broken_statistics, broken_index, broken_order, broken_window, broken_joins,
+    broken_table, broken_type, broken_copy, broken_condition, broken_membership, broken_statistics, broken_index, broken_order, broken_window, broken_joins,
     broken_groups, broken_advice, broken_lines]
 
 

@@ -5,19 +5,22 @@ from __future__ import annotations
 from random import Random
 from typing import Sequence
 
+from . import typed
+
 Words = list[str]
 # A column: its name, its type, and whether it takes no NULL.
 ColumnDef = tuple[str, str, bool]
 # A column as a condition sees it: the alias of its relation, its name, its type, and whether it takes no NULL.
 Seen = tuple[str, str, str, bool]
 
+# How each type is written, as words with spaces between them.
 TYPES = {
-    "int2": ("int2", "smallint"), "int4": ("int4", "int", "integer"), "int8": ("int8", "bigint"), "text": ("text",),
-    "bool": ("bool", "boolean"),
+    "int2": ("int2", "smallint"), "int4": ("int4", "int", "integer"), "int8": ("int8", "bigint"), "bool": ("bool", "boolean"),
+    "text": ("text", "text", "varchar", "varchar ( 3 )", "character varying", "character varying ( 10485760 )"), **typed.WRITTEN,
 }
 LIMITS = {"int2": 2**15, "int4": 2**31, "int8": 2**63}
 NAMES = ["t", "u", "orders", "line_items", "x1", "a$b", "_k", "copy", "stdin", "format", "csv", "region", "qty", "statistics", "distinct",
-         "between", "in", "left", "full", "count"]
+         "between", "in", "left", "full", "count", "date", "time", "timestamp", "varying", "zone"]
 RESERVED = ("and as asc create cross desc false from group inner is join limit not null offset on or order select table true using "
             "where with").split()
 # Words that are no alias without AS.
@@ -29,7 +32,7 @@ NO_TRUTHS = ["", "o", "2", "truex", "nein", "tr ue"]
 NO_NUMBERS = ["", "x", "1.5", "--1", "0x10", "1_000", "1 2", "+", "1e3"]
 CLASSES = {
     "int2": ["int2_ops", "int2_abs_ops"], "int4": ["int4_ops", "int4_abs_ops"], "int8": ["int8_ops", "int8_abs_ops"],
-    "text": ["text_ops"], "bool": ["bool_ops"],
+    "text": ["text_ops"], "bool": ["bool_ops"], **{kind: [typed.family_of(kind) + "_ops"] for kind in typed.KINDS},
 }
 MOST_INDEXES = 8
 
@@ -87,6 +90,19 @@ def literal_text(text: str) -> str:
 
 # -- names and values
 
+def some_kind(rng: Random) -> str:
+    """The type of a column."""
+    return rng.choice(typed.KINDS if rng.random() < 0.4 else ("int2", "int4", "int8", "text", "bool"))
+
+
+def are_alike(a: str, b: str) -> bool:
+    """Whether columns of two types can be compared."""
+    both = (a, b)
+    if all(kind in typed.NUMERICS for kind in both):
+        return typed.NUMERICS[a][1] == typed.NUMERICS[b][1]
+    return a == b or all(kind in LIMITS for kind in both)
+
+
 def new_name(rng: Random, taken: Sequence[str]) -> str:
     """A name that is not taken."""
     while True:
@@ -118,7 +134,8 @@ def field(rng: Random, kind: str, not_null: bool, alone: bool) -> str:
     """A field of a record; alone in it an empty one is quoted."""
     if not not_null and rng.random() < 0.2:
         return rng.choice(["\\N", "\\N", '"\\N"'])
-    text = rng.choice(TRUTHS) if kind == "bool" else text_value(rng) if kind == "text" else number(rng, kind)
+    text = typed.right(rng, kind) if kind in typed.KINDS else rng.choice(TRUTHS) if kind == "bool" else (
+        text_value(rng) if kind == "text" else number(rng, kind))
     if any(c in text for c in ',"\n\r') or text == "" and alone or text == "\\." or rng.random() < 0.1:
         return '"' + text.replace('"', '""') + '"'
     return text
@@ -138,11 +155,24 @@ def literal(rng: Random, kind: str) -> Words:
         return [literal_text(rng.choice(["", "x", "Ann", "a,b", "it's", "two\nlines", "\\N", "naïve", "b" * rng.choice([1, 8192])]))]
     if kind == "bool":
         return [rng.choice([in_any_case(rng, "true"), in_any_case(rng, "false"), literal_text(rng.choice(TRUTHS))])]
+    if kind in typed.KINDS:
+        return number_words(typed.whole(rng, kind)) if kind in typed.NUMERICS and rng.random() < 0.4 else [literal_text(typed.right(rng, kind))]
     value = rng.choice([0, 1, -1, 7, rng.randrange(100), rng.randrange(-40000, 40000), 2**63 - 1, -2**63])
     if rng.random() < 0.2:
         limit = LIMITS[kind]
         return [literal_text(rng.choice(["5", " -7 ", "+3", "007", str(limit - 1), str(-limit)]))]
+    return number_words(value)
+
+
+def number_words(value: int) -> Words:
+    """A number of a statement."""
     return ["-", str(-value)] if value < 0 else [str(value)]
+
+
+def typed_literal(rng: Random, kind: str) -> Words:
+    """A text with the word of its type before it, for types that have such a word."""
+    text = typed.right(rng, kind) if kind in typed.KINDS else {"text": "m", "bool": "yes"}.get(kind, "7")
+    return [in_any_case(rng, rng.choice(typed.WORDS[kind])), literal_text(text)]
 
 
 # -- conditions
@@ -161,12 +191,15 @@ class Scope:
 
     def like(self, kind: str) -> list[Seen]:
         """The columns that can be compared with one of this type."""
-        return [c for c in self.columns if c[2] == kind or c[2] in LIMITS and kind in LIMITS]
+        return [c for c in self.columns if are_alike(c[2], kind)]
 
 
 def operand(rng: Random, scope: Scope, kind: str) -> Words:
     """A column or a literal to compare with one of this type."""
-    return scope.named(rng, rng.choice(scope.like(kind))) if rng.random() < 0.2 else literal(rng, kind)
+    chance = rng.random()
+    if chance < 0.2:
+        return scope.named(rng, rng.choice(scope.like(kind)))
+    return typed_literal(rng, kind) if chance < 0.35 and kind in typed.WORDS else literal(rng, kind)
 
 
 def comparison(rng: Random, scope: Scope) -> Words:
@@ -175,11 +208,18 @@ def comparison(rng: Random, scope: Scope) -> Words:
     kind = column[2]
     op = rng.choice(COMPARISONS + (BY_SIZE if kind in LIMITS else []))
     left, right = scope.named(rng, column), operand(rng, scope, kind)
-    if rng.random() < 0.1:
-        other = [literal_text("m")] if kind == "text" else literal(rng, kind)
-        is_plain = other[0].lower() != "null" and (kind == "text" or not other[0].startswith("'"))
-        left = other if is_plain else left
+    if rng.random() < 0.1 and kind not in typed.NUMERICS:
+        left = other_left(rng, kind) or left
     return [*right, op, *left] if rng.random() < 0.2 else [*left, op, *right]
+
+
+def other_left(rng: Random, kind: str) -> Words | None:
+    """A literal that is of this type by itself, for the left side of a comparison, or none."""
+    if kind in typed.KINDS or rng.random() < 0.3:
+        return typed_literal(rng, kind)
+    other = [literal_text("m")] if kind == "text" else literal(rng, kind)
+    is_plain = other[0].lower() != "null" and (kind == "text" or not other[0].startswith("'"))
+    return other if is_plain else None
 
 
 def membership(rng: Random, scope: Scope) -> Words:

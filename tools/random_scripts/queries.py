@@ -6,7 +6,8 @@ from random import Random
 from typing import Sequence
 
 from .definitions import candidate, direction
-from .parts import JOIN_WORDS, LIMITS, MOST_INDEXES, Relation, Scope, Table, Words, cased, condition, in_any_case, listed, long_condition, new_name
+from .parts import (JOIN_WORDS, LIMITS, MOST_INDEXES, Relation, Scope, Table, Words, are_alike, cased, condition, in_any_case, listed, long_condition,
+                    new_name)
 
 # A query whose full product has more tuples is explained and not run.
 MOST_TUPLES = 30_000
@@ -38,7 +39,7 @@ def from_item(rng: Random, relation: Relation) -> Words:
 
 def equality(rng: Random, left: Sequence[Relation], right: Sequence[Relation]) -> Words | None:
     """A comparison of columns of two lists of relations, mostly for equality."""
-    pairs = [(a, b) for a in Scope(left).columns for b in Scope(right).columns if a[2] == b[2] or a[2] in LIMITS and b[2] in LIMITS]
+    pairs = [(a, b) for a in Scope(left).columns for b in Scope(right).columns if are_alike(a[2], b[2])]
     if not pairs:
         return None
     a, b = rng.choice(pairs)
@@ -140,7 +141,7 @@ def window(rng: Random) -> Words:
 def call(rng: Random, scope: Scope) -> Words:
     """A call of count, min or max."""
     name = rng.choice(["count", "min", "max"])
-    columns = [c for c in scope.columns if name == "count" or c[2] != "bool"]
+    columns = [c for c in scope.columns if name == "count" or c[2] not in ("bool", "uuid")]
     if not columns or rng.random() < 0.3:
         return [in_any_case(rng, "count"), "(", "*", ")"]
     return [in_any_case(rng, name), "(", *scope.named(rng, rng.choice(columns)), ")"]

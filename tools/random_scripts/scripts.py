@@ -230,18 +230,19 @@ def found_condition(rng: Random, column: int, values: list[str]) -> str:
         return own + rng.choice([" IS NULL", " IS NOT NULL"])
     op = "|=|" if kind == "int" and rng.random() < 0.2 else rng.choice(dense.PLAIN)
     value = asked_value(rng, kind, [v for v in values if v != "\\N"])
-    return f"{own} {op} " + (value if kind == "int" else f"'{value}'")
+    word = kind + " " if kind in ("date", "timestamptz", "uuid") and rng.random() < 0.2 else ""
+    return f"{own} {op} " + (value if kind == "int" else f"{word}'{value}'")
 
 
 def asked_value(rng: Random, kind: str, values: list[str]) -> str:
     """A value to compare with: one that occurs, the least or the greatest, a frequent one, often near the 16th place, or any."""
     if not values or rng.random() < 0.15:
-        return str(rng.randrange(-30_000, 30_000)) if kind == "int" else "t"
+        return dense.value(rng, kind, 30_000)
     if rng.random() < 0.3:
         ranked = [v for v, _ in Counter(values).most_common(20)]
         return ranked[min(rng.choice([0, 1, 14, 15, 16, 17]), len(ranked) - 1)]
     if rng.random() < 0.2:
-        return rng.choice([min, max])(values, key=int if kind == "int" else str.encode)
+        return dense.in_order(values, kind)[rng.choice([0, -1])]
     return rng.choice(values)
 
 
@@ -251,8 +252,7 @@ def column_values(rng: Random, kind: str, count: int) -> list[str]:
 
     def value(limit: int) -> str:
         """A value of about so many different ones."""
-        number = rng.randrange(-limit, limit)
-        return rng.choice("tf") if kind == "bool" else str(number) if kind == "int" else rng.choice(["k", "K", "k ", "z"]) + str(abs(number))
+        return rng.choice(["k", "K", "k ", "z"]) + str(rng.randrange(limit)) if kind == "text" else dense.value(rng, kind, limit)
 
     frequent = [value(30_000) for _ in range(rng.choice([1, 2, 15, 16, 17, 18, 30]))]
     return ["\\N" if rng.random() < nulls else frequent[min(int(rng.expovariate(0.3)), len(frequent) - 1)] if rng.random() < part
@@ -281,7 +281,7 @@ def dense_query(rng: Random, tables: int, count: int) -> str:
     shown = rng.choice(["*", ", ".join(dense.name(rng, rng.choice(dense.ALL), aliases) for _ in range(rng.choice([1, 2])))])
     parts = [dense.condition(rng, dense.ALL, rng.choice([0, 0, 1, 2]), aliases) for _ in range(rng.choice([0, 1, 2, 3]))]
     for n in range(1, count):
-        kind = rng.choice(["int", "int", "text", "bool"])
+        kind = rng.choice(["int", "int", "int", "text", "bool", "date", "numeric", "uuid"])
         a, b = (rng.choice([c for c in dense.ALL if dense.kind_of(c) == kind]) for _ in range(2))
         op = "=" if rng.random() < 0.85 else rng.choice(["|=|", "<", "<>"] if kind == "int" else ["<", "<>"])
         parts += [f"{aliases[rng.randrange(n)]}.{dense.COLUMNS[a][0]} {op} {aliases[n]}.{dense.COLUMNS[b][0]}"] * (rng.random() < 0.8)

@@ -5,7 +5,7 @@ import re
 
 from .conditions import Literal, Ref
 from .psql import Left, Server, quoted
-from .types import Type
+from .types import UUID, Type
 from .words import Word, inside, spelt
 
 # Words that may stand in a constant that the server evaluates: none of them runs code of a user.
@@ -17,7 +17,6 @@ year years zone as true false""".split())
 PLAIN = {"date": re.compile(r"\d{4}-\d\d-\d\d"), "time": re.compile(r"\d{4}-\d\d-\d\d( \d\d:\d\d(:\d\d)?)?"),
          "zoned": re.compile(r"\d{4}-\d\d-\d\d( \d\d:\d\d(:\d\d)?([+-]\d\d)?)?"), "text": re.compile(r".*", re.S),
          "enum": re.compile(r".*", re.S), "int": re.compile(r"-?\d+"), "scaled": re.compile(r"-?\d+(\.\d+)?")}
-UUID = re.compile(r"[0-9a-f]{8}(-[0-9a-f]{4}){3}-[0-9a-f]{12}")
 SIGNS = {"(", ")", ",", "::", "+", "-", "*", "/", "||", ".", "[", "]"}
 PARAMETER = re.compile(r"\$(\d+)")
 
@@ -104,9 +103,6 @@ class Constants:
             raise Left(f"nothing is known of {column.column.name}, so there is no value for {spelt(text, words)}")
         number = next(int(found[1]) for found in (PARAMETER.fullmatch(word.value) for word in words if word.kind == "parameter") if found)
         ours = values[(len(values) // 2 + number) % len(values)]
-        try:
-            theirs = column.column.type.theirs_literal(ours)
-        except ArithmeticError as fault:
-            raise Left(f"the values of {column.column.name} are past the year 9999") from fault
+        theirs = column.column.type.theirs_literal(ours)
         self.given.append(f"{spelt(text, words)} = {theirs}")
         return Literal(ours, theirs, True)

@@ -91,7 +91,7 @@ class Table:
 
 COLUMNS = """SELECT c.relname AS tab, a.attname AS name, a.attnum AS place,
     CASE WHEN t.typnamespace = 'pg_catalog'::regnamespace THEN t.typname ELSE '' END AS typ,
-    format_type(a.atttypid, a.atttypmod) AS written, a.atttypmod AS modifier,
+    format_type(a.atttypid, a.atttypmod) AS written,
     (SELECT coalesce(json_agg(e.enumlabel ORDER BY e.enumsortorder), '[]') FROM pg_enum e WHERE e.enumtypid = t.oid) AS labels,
     coalesce(s.avg_width, 8) AS width, json_build_array(n.nspname, c.relname, a.attname) AS names,
     json_build_array(quote_ident(n.nspname), quote_ident(c.relname), quote_ident(a.attname)) AS quoted
@@ -161,10 +161,10 @@ class Schema:
         """A column of the catalogue, with its type in the script."""
         table, name = self.tables.get(row["tab"]), row["name"]
         self.identifiers.update(zip(row["names"], row["quoted"]))
-        kept = re.search(rf"[(,] ?{re.escape(name)} (\w+)[ ,)]", table.create) if table and PLAIN.fullmatch(name) else None
+        kept = re.search(rf"[(,] ?{re.escape(name)} (\w+(?:\([\d,]+\))?)[ ,)]", table.create) if table and PLAIN.fullmatch(name) else None
         if table and kept:
             ours = None if is_stand_in else kept[1]
-            of = type_of(row["typ"], row["written"], row["modifier"], row["labels"], ours)
+            of = type_of(row["typ"], row["written"], row["labels"], ours)
             table.columns[name] = Column(name, of, row["place"], self._known.get((table.name, name)), row["width"])
         else:
             self.left_out[row["tab"], name] = row["written"]

@@ -1,7 +1,7 @@
 """Values of a server's types as pgplan has them, and back.
 
-date is a number of days and timestamp one of microseconds, both since 2000-01-01; numeric(p, s) is a whole number of 10^-s; an enum is
-the rank of its label. uuid, char, varchar and inet are texts. tools/from_postgres.sql writes its statistics in the same way.
+A literal of a date, a timestamp, a numeric or a uuid is in quotes, as the server prints its value in UTC; an enum is the rank of its
+label, and char and inet are texts. tools/from_postgres.sql writes its statistics in the same way.
 """
 from __future__ import annotations
 
@@ -13,20 +13,21 @@ from typing import Callable, Optional
 
 from .psql import quoted
 
-DAY_ZERO = datetime.date(2000, 1, 1)
-TIME_ZERO = datetime.datetime(2000, 1, 1)
 ZONE = re.compile(r"(.* .*\d)([+-])(\d\d)(?::(\d\d))?(?::(\d\d))?")
+UUID = re.compile(r"[0-9a-f]{8}(-[0-9a-f]{4}){3}-[0-9a-f]{12}")
+SIZES = re.compile(r"numeric\((\d+),(\d+)\)")
 INTEGERS = {"int2": 15, "int4": 31, "int8": 63}
 MOST_TEXT = 8192
 
 
 @dataclass(frozen=True)
 class Type:
-    """A column's type. `form` is how pgplan has it: int, bool, text, date, time, zoned, scaled, enum, or none for a stand-in."""
+    """A column's type. `form` is how pgplan has it: int, bool, text, uuid, date, time, zoned, scaled, enum, or none for a stand-in."""
 
     form: str
     ours: str
     theirs: str
+    digits: int = 0
     scale: int = 0
     labels: tuple[str, ...] = ()
     is_padded: bool = False
@@ -50,19 +51,13 @@ class Type:
 
     def value(self, literal: str) -> str:
         """A literal of pgplan as the text that the server reads for this type."""
-        if self.form == "text":
-            return literal[1:-1].replace("''", "'")
-        if self.form == "date":
-            return (DAY_ZERO + datetime.timedelta(days=int(literal))).isoformat()
-        if self.form in ("time", "zoned"):
-            return (TIME_ZERO + datetime.timedelta(microseconds=int(literal))).isoformat(" ") + ("+00" if self.form == "zoned" else "")
-        if self.form == "scaled":
-            return format(decimal.Decimal(literal).scaleb(-self.scale), "f")
-        return self.labels[int(literal) - 1] if self.form == "enum" else literal.strip("'")
+        if self.form == "enum":
+            return self.labels[int(literal) - 1]
+        return literal[1:-1].replace("''", "'") if literal.startswith("'") else literal
 
     def theirs_literal(self, literal: str) -> str:
         """A literal of pgplan as a literal of the server."""
-        return literal if self.form in ("int", "bool") else self.value(literal) if self.form == "scaled" else quoted(self.value(literal))
+        return quoted(self.value(literal)) if self.form == "enum" else literal
 
 
 def whole_number(of: Type, text: str) -> Optional[str]:
@@ -72,8 +67,11 @@ def whole_number(of: Type, text: str) -> Optional[str]:
 
 
 def scaled_number(of: Type, text: str) -> Optional[str]:
-    """A number with no more digits behind the point than the type has."""
-    return whole_number(of, str(decimal.Decimal(text).scaleb(of.scale)))
+    """A number in quotes that has no more digits than the type, with those behind the point that the type has."""
+    number = decimal.Decimal(text)
+    scaled = number.scaleb(of.scale)
+    fits = scaled == int(scaled) and abs(scaled) < 10 ** of.digits
+    return quoted(f"{number:.{of.scale}f}") if fits else None
 
 
 def boolean(_of: Type, text: str) -> Optional[str]:
@@ -87,20 +85,26 @@ def quoted_text(of: Type, text: str) -> Optional[str]:
     return quoted(text) if len(text.encode(errors="surrogateescape")) <= MOST_TEXT else None
 
 
+def uuid(_of: Type, text: str) -> Optional[str]:
+    """A uuid as the server prints it."""
+    return quoted(text) if UUID.fullmatch(text) else None
+
+
 def day(_of: Type, text: str) -> str:
     """A date of the years 1 to 9999."""
-    return str((datetime.date.fromisoformat(text) - DAY_ZERO).days)
+    return quoted(datetime.date.fromisoformat(text).isoformat())
 
 
-def microsecond(_of: Type, text: str) -> str:
-    """A timestamp of these years. Without a zone it is one of UTC."""
+def time(of: Type, text: str) -> str:
+    """A timestamp of these years. Without an offset it is one of UTC, and one of a type without a zone drops its offset."""
     zone = ZONE.fullmatch(text)
     plain = zone[1] if zone else text
     at = datetime.datetime.fromisoformat(re.sub(r"(\.\d+)$", lambda part: part[1].ljust(7, "0"), plain))
-    if zone:
+    if zone and of.form == "zoned":
         away = datetime.timedelta(hours=int(zone[3]), minutes=int(zone[4] or 0), seconds=int(zone[5] or 0))
         at -= away if zone[2] == "+" else -away
-    return str((at - TIME_ZERO) // datetime.timedelta(microseconds=1))
+    printed = at.isoformat(" ")
+    return quoted((printed.rstrip("0") if "." in printed else printed) + ("+00" if of.form == "zoned" else ""))
 
 
 def rank(of: Type, text: str) -> str:
@@ -109,14 +113,14 @@ def rank(of: Type, text: str) -> str:
 
 
 READERS: dict[str, Callable[[Type, str], Optional[str]]] = {
-    "int": whole_number, "scaled": scaled_number, "bool": boolean, "text": quoted_text, "date": day, "time": microsecond, "zoned": microsecond,
+    "int": whole_number, "scaled": scaled_number, "bool": boolean, "text": quoted_text, "uuid": uuid, "date": day, "time": time, "zoned": time,
     "enum": rank}
-FORMS = {"int2": "int", "int4": "int", "int8": "int", "bool": "bool", "text": "text", "varchar": "text", "bpchar": "text", "uuid": "text",
+FORMS = {"int2": "int", "int4": "int", "int8": "int", "bool": "bool", "text": "text", "varchar": "text", "bpchar": "text", "uuid": "uuid",
          "inet": "text", "date": "date", "timestamp": "time", "timestamptz": "zoned", "numeric": "scaled"}
 
 
-def type_of(name: str, written: str, modifier: int, labels: list[str], ours: Optional[str]) -> Type:
-    """The type of a column: its name in pg_catalog, as it is written, its modifier, the labels of an enum, and its type in the script.
+def type_of(name: str, written: str, labels: list[str], ours: Optional[str]) -> Type:
+    """The type of a column: its name in pg_catalog, as it is written, the labels of an enum, and its type in the script.
 
     The script's type is None for a stand-in.
     """
@@ -124,8 +128,9 @@ def type_of(name: str, written: str, modifier: int, labels: list[str], ours: Opt
         return Type("none", "text", written)
     if labels:
         return Type("enum", ours, written, labels=tuple(labels))
-    form = FORMS.get(name, "none")
-    return Type(form, ours, written, (modifier - 4) & 0xFFFF if form == "scaled" else 0, (), name == "bpchar")
+    sizes = SIZES.fullmatch(ours)
+    digits, scale = (int(sizes[1]), int(sizes[2])) if sizes else (0, 0)
+    return Type(FORMS.get(name, "none"), ours, written, digits, scale, (), name == "bpchar")
 
 
 def comparable(one: Type, other: Type) -> bool:
